@@ -16,7 +16,9 @@ use crate::values::{NoMemory, Same, TryCopy};
 pub use fits::{shift_fits, substitute_fits};
 pub use instances::{instantiate_types, same};
 use measures::bounds_of_node;
-pub use measures::{bounds_of, extent, loose};
+pub use measures::{
+    bounds_of, extent, loose, trees_extent, type_extent, type_params, types_extent, types_params,
+};
 use std::alloc::Global;
 use std::marker::Model;
 pub use substitution::{shift, substitute};
@@ -180,6 +182,19 @@ impl Tree {
                 children.len()
             }
             _ => 0,
+        }
+    }
+
+    /// The children, of which a variable and a literal have none.
+    pub fn children(&self) -> &[Tree]
+        ensures { result.now ≡ children self.now }
+    {
+        match &self.node {
+            Node::Sym(app) => {
+                let App::Of(_, _, _, children) = app.get();
+                children.as_slice()
+            }
+            _ => &[],
         }
     }
 

@@ -1,13 +1,13 @@
 ghost use Rattle.std.specs.Prelude.{◌≡◌, ◌≤◌, ◌+◌, ◌^◌, max};
 ghost use Rattle.ev_terms.specs.Term.{node, terms};
 ghost use Rattle.ev_terms.specs.View.{Bound, BoundAll};
-ghost use Rattle.ev_terms.specs.Measures.{loose, size, depth, type_size, types_size, type_depth, types_depth, type_params, types_params, capped};
+ghost use Rattle.ev_terms.specs.Measures.{loose, size, sizes, depth, depths, type_size, types_size, type_depth, types_depth, type_params, types_params, capped};
 
 use super::{App, Node, Tree};
 use crate::extents::{Bounds, Extent};
 use crate::types::{Sym, Ty, Tys, binds};
 
-/// What is kept of the term.
+/// What is kept of the term, in constant time.
 pub fn bounds_of(tree: &Tree) -> Bounds
     ensures { Bound result tree.now }
 {
@@ -31,6 +31,7 @@ pub fn bounds_of(tree: &Tree) -> Bounds
     }
 }
 
+/// One more than the greatest variable that reaches outside, or 0. In constant time.
 pub fn loose(tree: &Tree) -> u64
     ensures is { result ≡ loose tree.now }
     ensures small { result ≤ 2 ^ 32 }
@@ -38,10 +39,22 @@ pub fn loose(tree: &Tree) -> u64
     bounds_of(tree).loose
 }
 
+/// Size and depth of a term, in constant time.
 pub fn extent(tree: &Tree) -> Extent
     ensures { result ≡ record { size = capped (size tree.now); depth = capped (depth tree.now) } }
 {
     let bounds = bounds_of(tree);
+    Extent {
+        size: bounds.size,
+        depth: bounds.depth,
+    }
+}
+
+/// The sum of the sizes and the greatest depth of some terms, linear in their number.
+pub fn trees_extent(trees: &[Tree]) -> Extent
+    ensures { result ≡ record { size = capped (sizes (terms trees.now)); depth = capped (depths (terms trees.now)) } }
+{
+    let bounds = bounds_of_all(trees);
     Extent {
         size: bounds.size,
         depth: bounds.depth,
@@ -101,6 +114,7 @@ fn beside(a: Extent, b: Extent) -> Extent
     }
 }
 
+/// Size and depth of a type, linear in its size.
 #[cycle(type_extent)]
 #[tactic(auto, using(crate::proofs::Children::types_walk))]
 pub fn type_extent(ty: &Ty) -> Extent
@@ -114,6 +128,7 @@ pub fn type_extent(ty: &Ty) -> Extent
     }
 }
 
+/// The sum of the sizes and the greatest depth of some types.
 #[cycle(type_extent)]
 #[tactic(auto, using(crate::proofs::Children::types_walk))]
 pub fn types_extent(types: &Tys) -> Extent
@@ -125,6 +140,7 @@ pub fn types_extent(types: &Tys) -> Extent
     }
 }
 
+/// One more than the greatest type parameter of a type, or 0.
 #[cycle(type_params)]
 #[tactic(auto, using(crate::proofs::Children::types_walk))]
 pub fn type_params(ty: &Ty) -> u64
@@ -139,6 +155,7 @@ pub fn type_params(ty: &Ty) -> u64
     }
 }
 
+/// The greatest of `type_params` over some types.
 #[cycle(type_params)]
 #[tactic(auto, using(crate::proofs::Children::types_walk))]
 pub fn types_params(types: &Tys) -> u64
