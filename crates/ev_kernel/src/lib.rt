@@ -1,13 +1,6 @@
-// A library with one function.
+//! The base rules and derivability by them.
 #![tactic(auto)]
 
-ghost use Rattle.std.specs.Prelude.{◌≡◌};
-ghost use Rattle.ev_kernel.specs.Echo.{echo_of};
+pub mod rules;
 
-// The `ensures` clause is the contract: what `echo` returns is `echo_of` of its argument, a definition
-// in `specs/Echo.antt`, which a caller's clause can cite too.
-pub fn echo(x: usize) -> usize
-    ensures { result ≡ echo_of x }
-{
-    x
-}
+pub use rules::{BaseRule, Line, Lines, infers};

@@ -18,7 +18,7 @@ pub use shared::Shared;
 pub use strings::{Bytes, Name, Names};
 pub use tree::{
     Tree, Trees, bounds_of, extent, instantiate_types, loose, make_lit, make_node, make_var, same,
-    shift, shift_fits, substitute, substitute_fits, trees_extent, type_extent, type_params,
+    same_all, shift, shift_fits, substitute, substitute_fits, trees_extent, type_extent, type_params,
     types_extent, types_params,
 };
 pub use types::{Sym, Ty, Tys, binds, instantiate_list, instantiate_type};

@@ -14,7 +14,7 @@ use crate::shared::Shared;
 use crate::types::{Sym, Tys};
 use crate::values::{NoMemory, Same, TryCopy};
 pub use fits::{shift_fits, substitute_fits};
-pub use instances::{instantiate_types, same};
+pub use instances::{instantiate_types, same, same_all};
 use measures::bounds_of_node;
 pub use measures::{
     bounds_of, extent, loose, trees_extent, type_extent, type_params, types_extent, types_params,

@@ -40,6 +40,7 @@ fn instantiate_all(alloc: Global, trees: &[Tree], types: &Tys) -> Result<Trees, 
     Ok(all)
 }
 
+/// Whether two terms are one. Terms that differ in size, depth or bounds differ at the root.
 #[cycle(same)]
 #[tactic(auto, using(crate::proofs::Shifts::walk))]
 pub fn same(a: &Tree, b: &Tree) -> bool
@@ -60,9 +61,10 @@ pub fn same(a: &Tree, b: &Tree) -> bool
     }
 }
 
+/// Whether two slices have the same terms.
 #[cycle(same)]
 #[tactic(auto, using(crate::proofs::Shifts::walk))]
-fn same_all(trees: &[Tree], others: &[Tree]) -> bool
+pub fn same_all(trees: &[Tree], others: &[Tree]) -> bool
     ensures { IsTrue result ↔ (trees.now ≡ others.now) }
 {
     if trees.len() != others.len() {
