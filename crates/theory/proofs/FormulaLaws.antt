@@ -38,7 +38,7 @@ mark_of_one connective.Iff connective.Or e = cc
 mark_of_one connective.Iff connective.Implies e = cc
 mark_of_one connective.Iff connective.Iff e = refl
 
-same_connective : (c d : Connective) (ts us vs : List Mark) → ts ≡ mark_of c ∷ us → ts ≡ mark_of d ∷ vs → c ≡ d
+pub same_connective : (c d : Connective) (ts us vs : List Mark) → ts ≡ mark_of c ∷ us → ts ≡ mark_of d ∷ vs → c ≡ d
 same_connective c d ts us vs e f = mark_of_one c d (let g : mark_of c ≡ mark_of d = cc in g)
 
 -- `&` and `or` are neither `=>` nor `<=>`
@@ -55,7 +55,7 @@ ends_both : (rest : List Mark) → EndsPredicate rest → EndsConjunction rest
 ends_both rest e c is = e c
 
 -- two chains from one literal go by one connective, or both end at once
-same_chain : (c c' : Connective) (P R R' : Term) (us rest rest' : List Mark) → Chain c P us R rest → Chain c' P us R' rest' → StopsBefore c' rest → StopsBefore c rest'
+pub same_chain : (c c' : Connective) (P R R' : Term) (us rest rest' : List Mark) → Chain c P us R rest → Chain c' P us R' rest' → StopsBefore c' rest → StopsBefore c rest'
     → (c ≡ c') ⊎ ((R ≡ R') × (rest ≡ rest'))
 same_chain c c' P R R' us rest rest' (ends _ _ _ _ _ e f) (ends _ _ _ _ _ e' f') n n' = inr (e ∙ sym e', f ∙ sym f')
 same_chain c c' P R R' us rest rest' (ends _ _ _ _ _ e f) (goes_on _ _ Q _ _ vs ws _ g l k) n n' = absurd (n vs (f ∙ g))

@@ -1,3 +1,4 @@
 pub mod WordLaws
 pub mod MarkLaws
 pub mod FormulaLaws
+pub mod ReadLaws

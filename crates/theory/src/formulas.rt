@@ -6,7 +6,7 @@ ghost use Rattle.ev_typing.specs.declared.connectives.Connective.{Connective};
 ghost use Rattle.theory.specs.declared.marks.Mark.{Mark};
 ghost use Rattle.theory.specs.declared.marks.Mark.TheVariants.{Open};
 ghost use Rattle.theory.specs.Formulas.{mark_of, IsChained, IsSingle, Chain, Literal, Predicate, nesting_limit, size_limit};
-ghost use Rattle.theory.specs.Parsing.{StopsBefore, EndsConjunction, Reads, ExtendsToConjunction, ExtendsByOne, Extends, Gives};
+ghost use Rattle.theory.specs.Parsing.{StopsBefore, EndsConjunction, Reads, ExtendsToConjunction, ExtendsToPredicate, Extends, Gives};
 
 use crate::marks::Mark;
 use ev_terms::{NoMemory, Tree, extent};
@@ -113,4 +113,193 @@ fn joined_within(
         return Ok(None);
     }
     Ok(Some(tree))
+}
+
+/// Goes on with a chain of literals as far as it goes.
+#[cycle(read)]
+fn climb(
+    alloc: Global,
+    marks: &[Mark],
+    connective: Connective,
+    first: Found,
+    levels: u32,
+) -> Result<Option<Found>, NoMemory>
+    requires deep { 1 ≤ levels }
+    requires within { first.end ≤ length marks.now }
+    requires shallow { depth first.term ≤ levels }
+    ensures gives { IfOk result (Gives (λ R rest. Chain connective first.term (drop first.end marks.now) R rest × StopsBefore connective rest) levels marks.now) }
+    ensures advances { IfOk result (λ o. IfSome o (λ f. first.end ≤ f.end)) }
+{
+    let mark = mark_of(connective);
+    let mut found = first;
+    'chain: while has_mark(marks, found.end, mark) {
+        let Some(right) = read(alloc, marks, found.end + 1, Want::Literal, levels - 1)? else {
+            return Ok(None);
+        };
+        let Some(term) = joined_within(alloc, connective, found.term, right.term, levels)? else {
+            return Ok(None);
+        };
+        found = Found {
+            term,
+            end: right.end,
+        };
+    }
+    Ok(Some(found))
+}
+
+/// A conjunction or disjunction that begins with the literal.
+#[cycle(read)]
+fn conjunction(
+    alloc: Global,
+    marks: &[Mark],
+    first: Found,
+    levels: u32,
+) -> Result<Option<Found>, NoMemory>
+    requires deep { 1 ≤ levels }
+    requires within { first.end ≤ length marks.now }
+    requires shallow { depth first.term ≤ levels }
+    ensures gives { IfOk result (Gives (ExtendsToConjunction first.term (drop first.end marks.now)) levels marks.now) }
+    ensures advances { IfOk result (λ o. IfSome o (λ f. first.end ≤ f.end)) }
+{
+    let Some(connective) = chained_at(marks, first.end) else {
+        return Ok(Some(first));
+    };
+    let Some(chain) = climb(alloc, marks, connective, first, levels)? else {
+        return Ok(None);
+    };
+    match chained_at(marks, chain.end) {
+        Some(_) => Ok(None),
+        None => Ok(Some(chain)),
+    }
+}
+
+/// A predicate that begins with the literal.
+#[cycle(read)]
+fn predicate(
+    alloc: Global,
+    marks: &[Mark],
+    first: Found,
+    levels: u32,
+) -> Result<Option<Found>, NoMemory>
+    requires deep { 1 ≤ levels }
+    requires within { first.end ≤ length marks.now }
+    requires shallow { depth first.term ≤ levels }
+    ensures gives { IfOk result (Gives (ExtendsToPredicate first.term (drop first.end marks.now)) levels marks.now) }
+    ensures advances { IfOk result (λ o. IfSome o (λ f. first.end ≤ f.end)) }
+{
+    let Some(left) = conjunction(alloc, marks, first, levels)? else {
+        return Ok(None);
+    };
+    let Some(connective) = connective_at(marks, left.end) else {
+        return Ok(Some(left));
+    };
+    let Some(right) = read(alloc, marks, left.end + 1, Want::Conjunction, levels - 1)? else {
+        return Ok(None);
+    };
+    if connective_at(marks, right.end).is_some() {
+        return Ok(None);
+    }
+    let Some(term) = joined_within(alloc, connective, left.term, right.term, levels)? else {
+        return Ok(None);
+    };
+    Ok(Some(Found {
+        term,
+        end: right.end,
+    }))
+}
+
+/// The formula of the kind that begins with the literal.
+#[cycle(read)]
+fn extend(
+    alloc: Global,
+    marks: &[Mark],
+    first: Found,
+    want: Want,
+    levels: u32,
+) -> Result<Option<Found>, NoMemory>
+    requires deep { 1 ≤ levels }
+    requires within { first.end ≤ length marks.now }
+    requires shallow { depth first.term ≤ levels }
+    ensures gives { IfOk result (Gives (Extends want first.term (drop first.end marks.now)) levels marks.now) }
+    ensures advances { IfOk result (λ o. IfSome o (λ f. first.end ≤ f.end)) }
+{
+    match want {
+        Want::Literal => Ok(Some(first)),
+        Want::Conjunction => conjunction(alloc, marks, first, levels),
+        Want::Predicate => predicate(alloc, marks, first, levels),
+    }
+}
+
+/// The literal at a place where no parenthesis opens.
+#[cycle(read)]
+fn primary(
+    alloc: Global,
+    marks: &[Mark],
+    at: usize,
+    levels: u32,
+) -> Result<Option<Found>, NoMemory>
+    requires deep { 1 ≤ levels }
+    requires closed { (us : List Mark) → drop at marks.now ≢ Open ∷ us }
+    ensures gives { IfOk result (Gives (λ R rest. Literal R (drop at marks.now) rest) levels marks.now) }
+    ensures advances { IfOk result (λ o. IfSome o (λ f. at < f.end)) }
+{
+    match marks.get(at) {
+        Some(Mark::True) => Ok(Some(Found {
+            term: make_truth(alloc)?,
+            end: at + 1,
+        })),
+        Some(Mark::False) => Ok(Some(Found {
+            term: make_falsity(alloc)?,
+            end: at + 1,
+        })),
+        Some(Mark::Not) => {
+            let Some(negated) = read(alloc, marks, at + 1, Want::Literal, levels - 1)? else {
+                return Ok(None);
+            };
+            Ok(Some(Found {
+                term: make_negation(alloc, negated.term)?,
+                end: negated.end,
+            }))
+        }
+        _ => Ok(None),
+    }
+}
+
+/// The formula of the kind that stands at a place, of at most so many levels. Parentheses are no levels: those at the front are
+/// counted, so that no number of them makes the recursion deep.
+#[cycle(read)]
+fn read(
+    alloc: Global,
+    marks: &[Mark],
+    from: usize,
+    want: Want,
+    levels: u32,
+) -> Result<Option<Found>, NoMemory>
+    requires { from ≤ length marks.now }
+    ensures gives { IfOk result (Gives (λ R rest. Reads want R (drop from marks.now) rest) levels marks.now) }
+    ensures advances { IfOk result (λ o. IfSome o (λ f. from < f.end)) }
+{
+    if levels == 0 {
+        return Ok(None);
+    }
+    let opens = count_opens(marks, from);
+    let Some(first) = primary(alloc, marks, from + opens, levels)? else {
+        return Ok(None);
+    };
+    let mut found = first;
+    let mut open = opens;
+    'closing: while open > 0 {
+        let Some(inner) = predicate(alloc, marks, found, levels)? else {
+            return Ok(None);
+        };
+        if !has_mark(marks, inner.end, Mark::Close) {
+            return Ok(None);
+        }
+        found = Found {
+            term: inner.term,
+            end: inner.end + 1,
+        };
+        open -= 1;
+    }
+    extend(alloc, marks, found, want, levels)
 }
