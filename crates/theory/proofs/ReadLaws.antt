@@ -1,5 +1,6 @@
 -- What the steps of the formula reader rest on.
-use Rattle.std.proofs.Common.{◌≡◌, ◌≢◌, ◌+◌, ◌-◌, ◌<◌, ◌≤◌, ℕ, zero, suc, List, [], ◌∷◌, refl, ap, subst, sym, ◌∙◌, ◌⊎◌, inl, inr, arith, drop, max}
+use Rattle.std.proofs.Common.{◌≡◌, ◌≢◌, ◌+◌, ◌-◌, ◌<◌, ◌≤◌, ℕ, zero, suc, List, [], ◌∷◌, refl, ap, subst, sym, ◌∙◌, ◌⊎◌, inl, inr, arith, drop, length, max, Option, Some, None}
+use Rattle.std.specs.Prelude.{IfSome, IfNone, Bool, true, false, is_some}
 use Rattle.ev_terms.specs.Term.{Term, var, lit, node}
 use Rattle.ev_terms.specs.Measures.{depth}
 use Rattle.ev_typing.specs.Forms.{neg, truth, falsity}
@@ -10,8 +11,9 @@ use Rattle.theory.specs.declared.marks.Mark.{Mark}
 use Rattle.theory.specs.declared.marks.Mark.TheVariants.{True, False, Not, And, Or, Implies, Iff, Open, Close}
 use Rattle.theory.specs.declared.formulas.Want.{Want}
 use Rattle.theory.specs.declared.formulas.Want.TheVariants as want
+use Rattle.theory.specs.declared.formulas.Found.{Found}
 use Rattle.theory.specs.Formulas.{mark_of, IsChained, IsSingle, Literal, Chain, Conjunction, Predicate, is_true, is_false, is_negation, in_parens, ends, goes_on, chained, alone, is_joined}
-use Rattle.theory.specs.Parsing.{StopsBefore, EndsConjunction, EndsPredicate, Reads, ExtendsToConjunction, ExtendsByOne, ExtendsToPredicate, Extends}
+use Rattle.theory.specs.Parsing.{StopsBefore, EndsConjunction, EndsPredicate, Reads, ExtendsToConjunction, ExtendsByOne, ExtendsToPredicate, Extends, Gives}
 use Rattle.theory.proofs.FormulaLaws.{same_connective, same_chain, ends_at_close, ends_at_single, literal_unique, chain_unique, conjunction_unique, predicate_unique}
 
 -- Depths.
@@ -271,3 +273,41 @@ no_other levels ts t f n o R rest (is_true _ _ _ e g) = absurd (t rest e)
 no_other levels ts t f n o R rest (is_false _ _ _ e g) = absurd (f rest e)
 no_other levels ts t f n o R rest (is_negation _ Q _ us' _ e l g) = absurd (n us' e)
 no_other levels ts t f n o R rest (in_parens _ _ us' _ e l) = absurd (o us' e)
+
+-- What a reader gives where it found something, and where it did not.
+pub gives_none : (fits : Term → List Mark → Type 0) (levels : ℕ) (marks : List Mark) (o : Option Found) → Gives fits levels marks o → ((x : Found) → o ≡ Some x → ⊥)
+    → (R : Term) (rest : List Mark) → fits R rest → levels < depth R
+gives_none fits levels marks None h n = h
+gives_none fits levels marks (Some x) h n = absurd (n x refl)
+
+pub gives_some : (fits : Term → List Mark → Type 0) (levels : ℕ) (marks : List Mark) (o : Option Found) (x : Found) → Gives fits levels marks o → o ≡ Some x
+    → (x.end ≤ length marks) × fits x.term (drop x.end marks) × (depth x.term ≤ levels)
+gives_some fits levels marks o x h e = subst (Gives fits levels marks) e h
+
+pub gives_other : (fits fits' : Term → List Mark → Type 0) (levels : ℕ) (marks : List Mark) (o : Option Found) → ((R : Term) (rest : List Mark) → fits R rest → fits' R rest)
+    → ((R : Term) (rest : List Mark) → fits' R rest → fits R rest) → Gives fits levels marks o → Gives fits' levels marks o
+gives_other fits fits' levels marks None to back h = λ R rest k. h R rest (back R rest k)
+gives_other fits fits' levels marks (Some x) to back h = (h.0, to x.term (drop x.end marks) h.1, h.2)
+
+pub none_holds : {X : Type 0} (P : Type 0) (o : Option X) → IfNone o P → ((x : X) → o ≡ Some x → ⊥) → P
+none_holds P None h n = h
+none_holds P (Some x) h n = absurd (n x refl)
+
+pub some_holds : {X : Type 0} (P : X → Type 0) (o : Option X) (x : X) → IfSome o P → o ≡ Some x → P x
+some_holds P o x h e = subst (λ q. IfSome q P) e h
+
+-- Whole outcomes, from what the reader's parts give.
+pub chain_step : (levels : ℕ) (c : Connective) (P A Q R : Term) (ts us vs ws : List Mark) → Climbs c P ts A us → us ≡ mark_of c ∷ vs → Literal Q vs ws
+    → (R ≡ joined c A Q) × (depth R ≤ levels) → Climbs c P ts R ws × (depth R ≤ levels)
+chain_step levels c P A Q R ts us vs ws climbs e l h = (subst (λ B. Climbs c P ts B ws) (sym h.0) (climbs_on c P ts A Q us vs ws climbs e l), h.1)
+
+pub a_value : {X : Type 0} (o : Option X) (b : Bool) → b ≡ is_some o → b ≡ true → (x : X) × (o ≡ Some x)
+a_value None b e f = absurd (cc)
+a_value (Some x) b e f = (x, refl)
+
+pub no_value : {X : Type 0} (o : Option X) (b : Bool) → b ≡ is_some o → b ≡ false → (x : X) → o ≡ Some x → ⊥
+no_value None b e f x g = cc
+no_value (Some y) b e f x g = cc
+
+pub paren_at : (marks : List Mark) (from n : ℕ) → 0 < n → drop (from + (n - 1)) marks ≡ Open ∷ drop (from + (n - 1) + 1) marks → drop (from + (n - 1)) marks ≡ Open ∷ drop (from + n) marks
+paren_at marks from n lt e = let f : from + (n - 1) + 1 ≡ from + n = omega arith in e ∙ ap (λ i. Open ∷ drop i marks) f

@@ -243,26 +243,25 @@ fn primary(
     ensures gives { IfOk result (Gives (λ R rest. Literal R (drop at marks.now) rest) levels marks.now) }
     ensures advances { IfOk result (λ o. IfSome o (λ f. at < f.end)) }
 {
-    match marks.get(at) {
-        Some(Mark::True) => Ok(Some(Found {
-            term: make_truth(alloc)?,
-            end: at + 1,
-        })),
-        Some(Mark::False) => Ok(Some(Found {
-            term: make_falsity(alloc)?,
-            end: at + 1,
-        })),
-        Some(Mark::Not) => {
-            let Some(negated) = read(alloc, marks, at + 1, Want::Literal, levels - 1)? else {
-                return Ok(None);
-            };
-            Ok(Some(Found {
-                term: make_negation(alloc, negated.term)?,
-                end: negated.end,
-            }))
-        }
-        _ => Ok(None),
+    if has_mark(marks, at, Mark::True) {
+        let term = make_truth(alloc)?;
+        return Ok(Some(Found { term, end: at + 1 }));
     }
+    if has_mark(marks, at, Mark::False) {
+        let term = make_falsity(alloc)?;
+        return Ok(Some(Found { term, end: at + 1 }));
+    }
+    if !has_mark(marks, at, Mark::Not) {
+        return Ok(None);
+    }
+    let Some(negated) = read(alloc, marks, at + 1, Want::Literal, levels - 1)? else {
+        return Ok(None);
+    };
+    let term = make_negation(alloc, negated.term)?;
+    Ok(Some(Found {
+        term,
+        end: negated.end,
+    }))
 }
 
 /// The formula of the kind that stands at a place, of at most so many levels. Parentheses are no levels: those at the front are
