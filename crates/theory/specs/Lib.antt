@@ -1,3 +1,6 @@
 pub mod Words
 pub mod Formulas
 pub mod Parsing
+pub mod Theorems
+pub mod Steps
+pub mod Scripts

@@ -41,7 +41,7 @@ fn word_mark(word: &[u8]) -> Option<Mark>
 }
 
 /// How many letters, digits and `_` stand at the front.
-fn word_len(text: &[u8]) -> usize
+pub fn word_len(text: &[u8]) -> usize
     ensures { result ≡ length (take_while is_word_char text.now) }
 {
     let mut len = 0;
