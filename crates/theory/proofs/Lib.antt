@@ -1,4 +1,5 @@
 pub mod WordLaws
 pub mod MarkLaws
+pub mod ReadingLaws
 pub mod FormulaLaws
 pub mod ReadLaws

@@ -112,3 +112,15 @@ not_none b n e f z = let g : (n == 0) ≡ false = sym e ∙ f in grind (arith, n
 
 pub is_none : (b : Bool) (n : ℕ) → b ≡ (n == 0) → b ≡ true → n ≡ 0
 is_none b n e f = eqb-true n 0 (sym e ∙ f)
+
+-- blanks are no mark
+blanks_end : (cs : List ℕ) → are_blanks cs ≡ true → skip_blanks cs ≡ []
+blanks_end [] h = refl
+blanks_end (c ∷ cs) h = at (two (is_blank c)) (blanks_end cs)
+  where
+    at : (is_blank c ≡ true) ⊎ (is_blank c ≡ false) → (are_blanks cs ≡ true → skip_blanks cs ≡ []) → skip_blanks (c ∷ cs) ≡ []
+    at (inl e) ih = let k : are_blanks cs ≡ true = rw e at h in rw e (ih k)
+    at (inr e) ih = let k : false ≡ true = rw e at h in absurd (cc)
+
+pub no_mark : (cs : List ℕ) (m : Mark) (rest : List ℕ) → are_blanks cs ≡ true → mark_front (skip_blanks cs) ≡ Some (m, rest) → ⊥
+no_mark cs m rest h e = let f : mark_front [] ≡ Some (m, rest) = ap mark_front (sym (blanks_end cs h)) ∙ e in cc
