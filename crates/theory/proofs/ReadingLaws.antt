@@ -1,5 +1,5 @@
 -- Lists that are read item by item, where each item is read in one way at most.
-use Rattle.std.proofs.Common.{◌≡◌, ◌+◌, ◌<◌, ◌≤◌, ℕ, Bool, true, false, List, [], ◌∷◌, ◌++◌, Option, Some, None, length, drop, map, filter, refl, ap, subst, sym, ◌∙◌, append_assoc, arith, ◌⊎◌, inl, inr}
+use Rattle.std.proofs.Common.{◌≡◌, ◌+◌, ◌<◌, ◌≤◌, ℕ, suc, get_or, Bool, true, false, List, [], ◌∷◌, ◌++◌, Option, Some, None, length, drop, map, filter, refl, ap, subst, sym, ◌∙◌, append_assoc, arith, ◌⊎◌, inl, inr}
 use Rattle.std.proofs.lemmas.List.{append-nil}
 use Rattle.std.specs.List.{AllZip}
 use Rattle.std.specs.Prelude.{not, if◌then◌else◌}
@@ -10,9 +10,16 @@ use Rattle.ev_typing.specs.declared.connectives.Connective.{Connective}
 use Rattle.theory.specs.declared.marks.Mark.{Mark}
 use Rattle.theory.specs.declared.theorems.Theorem.{Theorem}
 use Rattle.theory.specs.declared.steps.Step.{Step}
-use Rattle.theory.specs.Words.{are_blanks, full_lines, skip_blanks, trimmed}
+use Rattle.theory.specs.Words.{are_blanks, full_lines, skip_blanks, texts, trimmed}
+use denote.Ref.{Bor}
+use Rattle.std.proofs.Math.Seq.{drop-cons}
+use Rattle.std.proofs.Math.ListN.{drop_of_length-le}
+use Rattle.std.specs.Prelude.{bytes_eq}
+use Rattle.std.specs.List.{list_any}
 use Rattle.theory.specs.Formulas.{Front, mark_of, mark_front, AreMarks, IsFormula, Predicate, nesting_limit, size_limit}
-use Rattle.theory.specs.Theorems.{Labelled, theorem_parts, IsTheorem}
+use Rattle.theory.specs.Parsing.{EndsPredicate}
+use Rattle.ev_terms.specs.Measures.{depth}
+use Rattle.theory.specs.Theorems.{Labelled, theorem_parts, IsTheorem, AreDifferent, AreTheorems, labels_of}
 use Rattle.theory.specs.Steps.{step_of, IsStep}
 
 -- the items done make all with what the rest is read as, and nothing else does
@@ -81,3 +88,105 @@ theorem_one line s t (text, e, p) (text', f, q) =
 
 pub step_one : (line : List ℕ) (s t : Step) → IsStep line s → IsStep line t → s ≡ t
 step_one line s t p q = some_one s t (sym p ∙ q)
+
+pub formula_none : (text : List ℕ) (ms : List Mark) → AreMarks text ms → ((P : Term) (rest : List Mark) → Predicate P ms rest × EndsPredicate rest → nesting_limit < depth P)
+    → (P : Term) → IsFormula text P → ⊥
+formula_none text ms are none P p =
+    let e : p.marks ≡ ms = marks_one text p.marks ms p.are are in
+    omega (arith, none P [] (subst (λ xs. Predicate P xs []) e p.reads, nothing_ends), p.shallow)
+
+pub formula_other : (text : List ℕ) (ms rest : List Mark) (Q : Term) → AreMarks text ms → Predicate Q ms rest × EndsPredicate rest
+    → (P : Term) → IsFormula text P → (P ≡ Q) × ([] ≡ rest)
+formula_other text ms rest Q are q P p =
+    let e : p.marks ≡ ms = marks_one text p.marks ms p.are are in
+    predicate_unique P Q ms [] rest (subst (λ xs. Predicate P xs []) e p.reads) q.0 nothing_ends q.1
+
+-- a text that lies in memory, by its place
+abbrev pub nowhere : Bor (List ℕ)
+nowhere = record { ref_ptr = (0, 0); now = [] }
+
+abbrev pub piece : List (Bor (List ℕ)) → ℕ → List ℕ
+piece pieces i = (get_or pieces i nowhere).now
+
+-- the next of some texts that lie in memory
+pub texts_next : (pieces : List (Bor (List ℕ))) (i : ℕ) → i < length pieces → texts (drop i pieces) ≡ piece pieces i ∷ texts (drop (i + 1) pieces)
+texts_next pieces i lt =
+    let s : suc i ≡ i + 1 = omega arith in
+    ap texts (drop-cons pieces i nowhere lt) ∙ ap (λ j. piece pieces i ∷ texts (drop j pieces)) s
+
+pub texts_end : (pieces : List (Bor (List ℕ))) (i : ℕ) → length pieces ≤ i → texts (drop i pieces) ≡ []
+texts_end pieces i le = ap texts (drop_of_length-le pieces le)
+
+-- the same of what was read so far
+pub so_far_next : {B : Type 0} (R : List ℕ → B → Type 0) (pieces : List (Bor (List ℕ))) (done : List B) (i : ℕ) → i < length pieces
+    → ReadSoFar R (texts pieces) done (texts (drop i pieces)) → ReadSoFar R (texts pieces) done (piece pieces i ∷ texts (drop (i + 1) pieces))
+so_far_next R pieces done i lt s = subst (ReadSoFar R (texts pieces) done) (texts_next pieces i lt) s
+
+pub so_far_end : {B : Type 0} (R : List ℕ → B → Type 0) (pieces : List (Bor (List ℕ))) (done : List B) (i : ℕ) → length pieces ≤ i
+    → ReadSoFar R (texts pieces) done (texts (drop i pieces)) → AllZip R (texts pieces) done
+so_far_end R pieces done i le s = read_all R (texts pieces) done (subst (ReadSoFar R (texts pieces) done) (texts_end pieces i le) s)
+
+pub theorem_none : (line label text : List ℕ) → Some (label, text) ≡ theorem_parts line → ((P : Term) → IsFormula text P → ⊥) → (t : Theorem) → IsTheorem line t → ⊥
+theorem_none line label text e none t (text', f, p) =
+    let both : ◌≡◌ {A = Labelled} (label, text) (t.label, text') = some_one (label, text) (t.label, text') (e ∙ f) in
+    none t.goal (subst (λ xs. IsFormula xs t.goal) (sym (ap (λ (x : Labelled). x.1) both)) p)
+
+-- Labels that differ.
+different_more : (seen labels : List (List ℕ)) (label : List ℕ) → AreDifferent seen labels → list_any (bytes_eq label) (seen ++ labels) ≡ false → AreDifferent seen (labels ++ label ∷ [])
+different_more seen [] label h n = (subst (λ ls. list_any (bytes_eq label) ls ≡ false) (append-nil seen) n, tt)
+different_more seen (l ∷ ls) label h n = (h.0, different_more (seen ++ l ∷ []) ls label h.1 (subst (λ xs. list_any (bytes_eq label) xs ≡ false) (sym (append_assoc seen (l ∷ []) ls)) n))
+
+different_at : (seen labels more : List (List ℕ)) (label : List ℕ) → AreDifferent seen (labels ++ label ∷ more) → list_any (bytes_eq label) (seen ++ labels) ≡ false
+different_at seen [] more label h = subst (λ ls. list_any (bytes_eq label) ls ≡ false) (sym (append-nil seen)) h.0
+different_at seen (l ∷ ls) more label h = subst (λ xs. list_any (bytes_eq label) xs ≡ false) (append_assoc seen (l ∷ []) ls) (different_at (seen ++ l ∷ []) ls more label h.1)
+
+labels-append : (ts us : List Theorem) → labels_of (ts ++ us) ≡ labels_of ts ++ labels_of us
+labels-append [] us = refl
+labels-append (t ∷ ts) us = ap (λ ls. t.label ∷ ls) (labels-append ts us)
+
+pub different_on : (done : List Theorem) (t : Theorem) → AreDifferent [] (labels_of done) → list_any (bytes_eq t.label) (labels_of done) ≡ false → AreDifferent [] (labels_of (done ++ t ∷ []))
+different_on done t h n = subst (AreDifferent []) (sym (labels-append done (t ∷ []))) (different_more [] (labels_of done) t.label h n)
+
+pub labels-more : (done : List Theorem) (t : Theorem) → labels_of done ++ t.label ∷ [] ≡ labels_of (done ++ t ∷ [])
+labels-more done t = sym (labels-append done (t ∷ []))
+
+pub repeated : (lines : List (List ℕ)) (done : List Theorem) (line : List ℕ) (rest : List (List ℕ)) (t : Theorem) → IsTheorem line t
+    → ReadSoFar IsTheorem (full_lines lines) done (line ∷ rest) → list_any (bytes_eq t.label) (labels_of done) ≡ true
+    → (ts : List Theorem) → AreTheorems lines ts → ⊥
+repeated lines done line rest t is s n ts h = at (s.only ts h.0)
+  where
+    at : (more : List Theorem) × (ts ≡ done ++ more) × AllZip IsTheorem (line ∷ rest) more → ⊥
+    at ([], e, k) = k
+    at (u ∷ more, e, k) =
+        let same : u ≡ t = theorem_one line u t k.0 is in
+        let f : labels_of ts ≡ labels_of done ++ t.label ∷ labels_of more = ap labels_of e ∙ labels-append done (u ∷ more) ∙ ap (λ (x : Theorem). labels_of done ++ x.label ∷ labels_of more) same in
+        let g : list_any (bytes_eq t.label) (labels_of done) ≡ false = different_at [] (labels_of done) (labels_of more) t.label (subst (AreDifferent []) f h.1) in
+        cc
+
+-- what was read, where the lines that are not blank lie in memory
+pub lines_are : (full : List (Bor (List ℕ))) (items : List (Bor (List ℕ))) (lines : List (List ℕ)) → items ≡ full → texts full ≡ full_lines lines → texts items ≡ full_lines lines
+lines_are full items lines e f = ap texts e ∙ f
+
+-- A set of the labels so far, and the next one.
+pub old_key : (k label : List ℕ) (keys labels : List (List ℕ)) (new : Bool) → k ≡ label → keys ≡ labels → new ≡ not (list_any (bytes_eq k) keys) → new ≡ false
+    → list_any (bytes_eq label) labels ≡ true
+old_key k label keys labels new e f g h = not_false (list_any (bytes_eq label) labels) (sym h ∙ g ∙ ap (λ x. not (list_any (bytes_eq x) keys)) e ∙ ap (λ ks. not (list_any (bytes_eq label) ks)) f)
+  where
+    not_false : (b : Bool) → false ≡ not b → b ≡ true
+    not_false true e = refl
+    not_false false e = cc
+
+pub fresh_key : (k label : List ℕ) (keys labels : List (List ℕ)) (new : Bool) → k ≡ label → keys ≡ labels → new ≡ not (list_any (bytes_eq k) keys) → new ≡ true
+    → list_any (bytes_eq label) labels ≡ false
+fresh_key k label keys labels new e f g h = not_true (list_any (bytes_eq label) labels) (sym h ∙ g ∙ ap (λ x. not (list_any (bytes_eq x) keys)) e ∙ ap (λ ks. not (list_any (bytes_eq label) ks)) f)
+  where
+    not_true : (b : Bool) → true ≡ not b → b ≡ false
+    not_true true e = cc
+    not_true false e = refl
+
+pub fresh_keys : (k label : List ℕ) (keys labels : List (List ℕ)) (after : List (List ℕ)) → k ≡ label → keys ≡ labels
+    → after ≡ (if list_any (bytes_eq k) keys then keys else keys ++ k ∷ []) → list_any (bytes_eq label) labels ≡ false → after ≡ labels ++ label ∷ []
+fresh_keys k label keys labels after e f g fresh =
+    let h : list_any (bytes_eq k) keys ≡ false = ap (λ x. list_any (bytes_eq x) keys) e ∙ ap (list_any (bytes_eq label)) f ∙ fresh in
+    let i : after ≡ keys ++ k ∷ [] = g ∙ rw h refl in
+    i ∙ ap (λ ks. ks ++ k ∷ []) f ∙ ap (λ x. labels ++ x ∷ []) e

@@ -45,7 +45,7 @@ IsTheorem line t = (text : List ℕ) × (theorem_parts line ≡ Some (t.label, t
 -- no label is among those before it, `seen` being such
 abbrev pub AreDifferent : List (List ℕ) → List (List ℕ) → Type 0
 AreDifferent seen [] = ⊤
-AreDifferent seen (label ∷ labels) = (list_any (λ other. bytes_eq other label) seen ≡ false) × AreDifferent (seen ++ label ∷ []) labels
+AreDifferent seen (label ∷ labels) = (list_any (bytes_eq label) seen ≡ false) × AreDifferent (seen ++ label ∷ []) labels
 
 abbrev pub labels_of : List Theorem → List (List ℕ)
 labels_of theorems = map (λ (t : Theorem). t.label) theorems

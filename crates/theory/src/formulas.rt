@@ -5,10 +5,10 @@ ghost use Rattle.ev_typing.specs.Connectives.{joined};
 ghost use Rattle.ev_typing.specs.declared.connectives.Connective.{Connective};
 ghost use Rattle.theory.specs.declared.marks.Mark.{Mark};
 ghost use Rattle.theory.specs.declared.marks.Mark.TheVariants.{Open};
-ghost use Rattle.theory.specs.Formulas.{mark_of, IsChained, IsSingle, Chain, Literal, Predicate, nesting_limit, size_limit};
+ghost use Rattle.theory.specs.Formulas.{mark_of, IsChained, IsSingle, Chain, Literal, IsFormula};
 ghost use Rattle.theory.specs.Parsing.{StopsBefore, EndsConjunction, Reads, ExtendsToConjunction, ExtendsToPredicate, Extends, Gives};
 
-use crate::marks::Mark;
+use crate::marks::{Mark, marks_of};
 use ev_terms::{NoMemory, Tree, extent};
 use ev_typing::{Connective, make_falsity, make_joined, make_negation, make_truth};
 use std::alloc::Global;
@@ -301,4 +301,24 @@ fn read(
         open -= 1;
     }
     extend(alloc, marks, found, want, levels)
+}
+
+/// The formula that a text is, within the limits, or `None` where it is none.
+pub fn formula_of(alloc: Global, text: &[u8]) -> Result<Option<Tree>, NoMemory>
+    ensures found { IfOk result (λ o. IfSome o (λ t. IsFormula text.now t)) }
+    ensures none { IfOk result (λ o. IfNone o ((P : Term) → ¬ IsFormula text.now P)) }
+{
+    let Some(marks) = marks_of(alloc, text)? else {
+        return Ok(None);
+    };
+    let Some(found) = read(alloc, marks.as_slice(), 0, Want::Predicate, NESTING_LIMIT)? else {
+        return Ok(None);
+    };
+    if found.end != marks.len() {
+        return Ok(None);
+    }
+    if extent(&found.term).size > SIZE_LIMIT {
+        return Ok(None);
+    }
+    Ok(Some(found.term))
 }

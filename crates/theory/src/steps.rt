@@ -1,9 +1,12 @@
-ghost use Rattle.std.specs.Prelude.{◌≡◌};
-ghost use Rattle.theory.specs.Steps.{step_of};
+ghost use Rattle.std.specs.Prelude.{◌≡◌, List, IfNone, IfOk, IfSome};
+ghost use Rattle.theory.specs.Words.{texts};
+ghost use Rattle.theory.specs.Steps.{step_of, AreSteps};
+ghost use Rattle.theory.specs.declared.steps.Step.{Step};
 
-use crate::words::same_text;
-use ev_terms::ListOf;
+use crate::words::{full_lines, same_text, trimmed};
+use ev_terms::{ListOf, NoMemory};
 use ev_typing::Sequents;
+use std::alloc::Global;
 
 /// A proof step: a base rule that is read upwards, or `open`, which leaves the goal aside.
 #[derive(Debug, Clone, Copy, PartialEq, Eq)]
@@ -56,4 +59,20 @@ pub fn step_of(word: &[u8]) -> Option<Step>
     } else {
         None
     }
+}
+
+/// The steps of a proof's lines, or `None` where a line is no step.
+pub fn steps_of(alloc: Global, lines: &[&[u8]]) -> Result<Option<Steps>, NoMemory>
+    ensures found { IfOk result (λ o. IfSome o (λ steps. AreSteps (texts lines.now) steps)) }
+    ensures none { IfOk result (λ o. IfNone o ((steps : List Step) → ¬ AreSteps (texts lines.now) steps)) }
+{
+    let full = full_lines(alloc, lines)?;
+    let mut steps = Steps::new(alloc);
+    for line in full.as_slice() {
+        match step_of(trimmed(line)) {
+            Some(step) => steps.push(alloc, step)?,
+            None => return Ok(None),
+        }
+    }
+    Ok(Some(steps))
 }

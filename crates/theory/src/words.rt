@@ -1,7 +1,7 @@
 ghost use Rattle.std.specs.Prelude.{◌≡◌, bytes_eq, IfOk};
 ghost use Rattle.std.specs.List.{list_all, list_any};
 ghost use Rattle.std.specs.Char.{is_ascii_digit};
-ghost use Rattle.theory.specs.Words.{is_blank, are_blanks, is_word_char, begins_word, is_word, is_reserved, is_name, is_variable_name, skip_blanks, drop_last_blanks, trimmed, lines_of, words_of, texts};
+ghost use Rattle.theory.specs.Words.{is_blank, are_blanks, is_word_char, begins_word, is_word, is_reserved, is_name, is_variable_name, skip_blanks, drop_last_blanks, trimmed, lines_of, words_of, full_lines, texts};
 
 use std::alloc::{AllocError, Global};
 
@@ -143,4 +143,17 @@ pub fn words_of(alloc: Global, line: &[u8]) -> Result<Vec<&[u8]>, AllocError>
     line.split(|byte| *byte == b' ' || *byte == b'\t')
         .filter(|word| !word.is_empty())
         .collect(alloc)
+}
+
+/// The lines that are not blank.
+pub fn full_lines<'a>(alloc: Global, lines: &[&'a [u8]]) -> Result<Vec<&'a [u8]>, AllocError>
+    ensures { IfOk result (λ full. texts full.items ≡ full_lines (texts lines.now)) }
+{
+    let mut full = Vec::new(alloc);
+    for line in lines {
+        if !are_blanks(line) {
+            full.push(*line)?;
+        }
+    }
+    Ok(full)
 }
