@@ -1,5 +1,6 @@
 pub mod WordLaws
 pub mod MarkLaws
 pub mod ReadingLaws
+pub mod ScriptLaws
 pub mod FormulaLaws
 pub mod ReadLaws

@@ -53,7 +53,7 @@ read_none {A} {B} R all rest done a none s bs h = at (s.only bs h)
     at (b ∷ more, e, k) = none b k.0
 
 -- One text has one list of marks, and is one formula at most.
-some_one : {X : Type 0} (x y : X) → Some x ≡ Some y → x ≡ y
+pub some_one : {X : Type 0} (x y : X) → Some x ≡ Some y → x ≡ y
 some_one x y e = cc
 
 marks_one : (cs : List ℕ) (ms ns : List Mark) → AreMarks cs ms → AreMarks cs ns → ms ≡ ns

@@ -1,6 +1,6 @@
 -- A script: at most one theory text, and then proofs.
-use Rattle.std.specs.Prelude.{◌≡◌, ◌&&◌, ◌+◌, ◌==◌, ℕ, Bool, true, List, [], ◌∷◌, Option, Some, None, bytes_eq, codes, drop, take, if◌then◌else◌, option_map}
-use Rattle.std.specs.List.{list_all, position, slice_split}
+use Rattle.std.specs.Prelude.{◌≡◌, ◌&&◌, ◌==◌, ℕ, Bool, true, List, [], ◌∷◌, Option, Some, None, bytes_eq, codes, if◌then◌else◌, option_map}
+use Rattle.std.specs.List.{list_all, slice_split}
 use Rattle.theory.specs.declared.script.Head.{Head}
 use Rattle.theory.specs.declared.script.Head.TheVariants.{Put, Proof}
 use Rattle.theory.specs.declared.script.StoredProof.{StoredProof}
@@ -41,10 +41,22 @@ UnitFront = ScriptUnit × List (List ℕ)
 abbrev pub is_end : List ℕ → Bool
 is_end line = bytes_eq (drop_last_blanks line) (codes "END")
 
+-- a body, and the lines behind the one that ends it
+pub record Body : Type 0 where
+  pub lines : List (List ℕ)
+  pub after : List (List ℕ)
+
+abbrev pub with_line : List ℕ → Body → Body
+with_line line b = record { lines = line ∷ b.lines; after = b.after }
+
 -- the body goes up to the first line that ends it
+abbrev pub body_of : List (List ℕ) → Option Body
+body_of [] = None
+body_of (line ∷ lines) = if is_end line then Some (record { lines = []; after = lines }) else option_map (with_line line) (body_of lines)
+
 abbrev pub with_body : Option Head → List (List ℕ) → Option UnitFront
 with_body None lines = None
-with_body (Some head) lines = option_map (λ i. (record { head = head; body = take i lines }, drop (i + 1) lines)) (position is_end lines)
+with_body (Some head) lines = option_map (λ (b : Body). (record { head = head; body = b.lines }, b.after)) (body_of lines)
 
 -- the unit with which the lines begin, after blank ones, or none
 abbrev pub unit_front : List (List ℕ) → Option UnitFront

@@ -1,0 +1,14 @@
+pub mod Order
+pub mod Backward
+pub mod Search
+pub mod Trail
+pub mod Rows
+pub mod Chain
+pub mod Walking
+pub mod Steps
+pub mod Ordered
+pub mod Lexicographic
+pub mod Deployed
+pub mod Listing
+pub mod OneCycle
+pub mod Parts

@@ -1,0 +1,6 @@
+pub mod Walks
+pub mod Cycles
+pub mod Reached
+pub mod Found
+pub mod Ordered
+pub mod Listing
