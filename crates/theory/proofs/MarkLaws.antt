@@ -8,7 +8,7 @@ use Rattle.theory.specs.declared.marks.Mark.{Mark}
 use Rattle.theory.specs.Words.{is_blank, are_blanks, skip_blanks}
 use Rattle.theory.specs.Formulas.{Front, mark_front, AreMarks}
 
-two : (b : Bool) → (b ≡ true) ⊎ (b ≡ false)
+pub two : (b : Bool) → (b ≡ true) ⊎ (b ≡ false)
 two true = inl refl
 two false = inr refl
 

@@ -10,7 +10,7 @@ use Rattle.ev_typing.specs.declared.connectives.Connective.{Connective}
 use Rattle.theory.specs.declared.marks.Mark.{Mark}
 use Rattle.theory.specs.declared.theorems.Theorem.{Theorem}
 use Rattle.theory.specs.declared.steps.Step.{Step}
-use Rattle.theory.specs.Words.{are_blanks, full_lines, skip_blanks, texts, trimmed}
+use Rattle.theory.specs.Words.{are_blanks, full_lines, nowhere, piece, skip_blanks, texts, trimmed}
 use denote.Ref.{Bor}
 use Rattle.std.proofs.Math.Seq.{drop-cons}
 use Rattle.std.proofs.Math.ListN.{drop_of_length-le}
@@ -100,13 +100,6 @@ pub formula_other : (text : List ℕ) (ms rest : List Mark) (Q : Term) → AreMa
 formula_other text ms rest Q are q P p =
     let e : p.marks ≡ ms = marks_one text p.marks ms p.are are in
     predicate_unique P Q ms [] rest (subst (λ xs. Predicate P xs []) e p.reads) q.0 nothing_ends q.1
-
--- a text that lies in memory, by its place
-abbrev pub nowhere : Bor (List ℕ)
-nowhere = record { ref_ptr = (0, 0); now = [] }
-
-abbrev pub piece : List (Bor (List ℕ)) → ℕ → List ℕ
-piece pieces i = (get_or pieces i nowhere).now
 
 -- the next of some texts that lie in memory
 pub texts_next : (pieces : List (Bor (List ℕ))) (i : ℕ) → i < length pieces → texts (drop i pieces) ≡ piece pieces i ∷ texts (drop (i + 1) pieces)

@@ -3,6 +3,7 @@ use Rattle.std.specs.Prelude.{◌&&◌, ◌||◌, ◌==◌, ℕ, Bool, false, no
 use Rattle.std.specs.List.{list_all, list_any, slice_split}
 use Rattle.std.specs.Char.{is_ascii_alphabetic, is_ascii_alphanumeric, is_ascii_digit}
 use denote.Ref.{Bor}
+use Rattle.std.proofs.Common.{get_or}
 
 -- space, tab, CR and LF
 abbrev pub is_blank : ℕ → Bool
@@ -74,3 +75,10 @@ full_lines lines = filter (λ line. not (are_blanks line)) lines
 -- what pieces of text say
 abbrev pub texts : List (Bor (List ℕ)) → List (List ℕ)
 texts pieces = map (λ piece. piece.now) pieces
+
+-- a text that lies in memory, by its place
+abbrev pub nowhere : Bor (List ℕ)
+nowhere = record { ref_ptr = (0, 0); now = [] }
+
+abbrev pub piece : List (Bor (List ℕ)) → ℕ → List ℕ
+piece pieces i = (get_or pieces i nowhere).now

@@ -3,10 +3,10 @@ use Rattle.std.specs.List.{AllZip, list_any}
 use Rattle.std.specs.Prelude.{bytes_eq, true, false, not, if◌then◌else◌}
 use Rattle.ev_terms.specs.declared.strings.Name.{Name}
 use Rattle.theory.specs.declared.theorems.Theorem.{Theorem}
-use Rattle.theory.specs.Words.{texts, full_lines}
+use Rattle.theory.specs.Words.{texts, piece}
 use Rattle.theory.specs.Theorems.{IsTheorem, AreDifferent, labels_of}
 use Rattle.theory.proofs.ReadLaws.{none_holds, some_holds}
-use Rattle.theory.proofs.ReadingLaws.{ReadSoFar, piece, read_on, read_none, so_far_next, so_far_end, theorem_one, lines_are, repeated, different_on, labels-more, fresh_key, fresh_keys, old_key}
+use Rattle.theory.proofs.ReadingLaws.{ReadSoFar, read_on, read_none, so_far_next, so_far_end, theorem_one, lines_are, repeated, different_on, labels-more, fresh_key, fresh_keys, old_key}
 use Rattle.theory.proofs.theorems.theorems_of.Goals as goal
 
 pub returns-in_default-clause-none : goal.returns-in_default-clause-none

@@ -1,0 +1,16 @@
+pub mod Followed
+pub mod Parts
+pub mod Siding
+pub mod Spread
+pub mod Heights
+pub mod Forest
+pub mod Pairing
+pub mod PartTypes
+pub mod Joining
+pub mod Faults
+pub mod Merging
+pub mod Partition
+pub mod Marking
+pub mod Ranking
+pub mod Binding
+pub mod Solving
