@@ -1,0 +1,15 @@
+pub mod RowLemmas
+pub mod Characters
+pub mod Words
+pub mod Counting
+pub mod Signs
+pub mod TokenKinds
+pub mod Fronts
+pub mod Stands
+pub mod Continuing
+pub mod Answering
+pub mod MarkRows
+pub mod Spans
+pub mod NameLemmas
+pub mod Scanning
+pub mod TokenExamples

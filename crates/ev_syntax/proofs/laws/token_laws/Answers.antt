@@ -1,0 +1,7 @@
+-- The laws.
+use Rattle.ev_syntax.proofs.Continuing.{text_tokens_same}
+use Rattle.ev_syntax.proofs.Spans.{spans_in_order}
+use Rattle.ev_syntax.proofs.laws.token_laws.Goals as goal
+
+pub returns : goal.returns
+returns c = record { one = text_tokens_same; spans = spans_in_order }

@@ -1,0 +1,17 @@
+-- Laws of tokens.
+use Rattle.std.specs.Prelude.{◌≡◌, ℕ, ◌≤◌, ◌<◌, List, [], ◌∷◌, length, slice_range}
+use Rattle.std.specs.Str.{chars}
+use Rattle.ev_syntax.specs.Tokens.{Spanned, HasTokens, token_of}
+
+-- a text has at most one list of tokens
+abbrev pub AtMostOneList : Type 0
+AtMostOneList = (text : List ℕ) (ts us : List Spanned) → HasTokens text ts → HasTokens text us → ts ≡ us
+
+-- the tokens stand in their order from the place on, and each is what the bytes that it takes are
+abbrev pub AreSpans : List ℕ → ℕ → List Spanned → Type 0
+AreSpans text from [] = from ≤ length text
+AreSpans text from (t ∷ ts) =
+    (from ≤ t.start) × (t.start < t.end) × (t.token ≡ token_of (chars (slice_range text t.start t.end))) × AreSpans text t.end ts
+
+abbrev pub SpansAreInOrder : Type 0
+SpansAreInOrder = (text : List ℕ) (ts : List Spanned) → HasTokens text ts → AreSpans text 0 ts

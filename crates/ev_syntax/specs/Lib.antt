@@ -1,0 +1,10 @@
+pub mod Chars
+pub mod Marks
+pub mod Tokens
+pub mod Names
+pub mod Spelled
+pub mod Places
+pub mod Views
+pub mod Standing
+pub mod Reading
+pub mod Laws

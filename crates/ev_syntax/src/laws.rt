@@ -1,0 +1,8 @@
+//! Laws of tokens.
+ghost use Rattle.ev_syntax.specs.Laws.{AtMostOneList, SpansAreInOrder};
+
+/// A text has at most one list of tokens. Its spans are in order, and each token is what its bytes are.
+pub fn token_laws()
+    ensures one { AtMostOneList }
+    ensures spans { SpansAreInOrder }
+{}
