@@ -4,3 +4,4 @@ pub mod Parsing
 pub mod Theorems
 pub mod Steps
 pub mod Scripts
+pub mod Reports

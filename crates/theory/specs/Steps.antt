@@ -1,5 +1,5 @@
 -- Proof steps: how they are written, and what they do to a goal.
-use Rattle.std.specs.Prelude.{◌≡◌, ◌≢◌, ◌+◌, ◌++◌, ℕ, zero, suc, List, [], ◌∷◌, Option, Some, None, bytes_eq, codes, if◌then◌else◌, length}
+use Rattle.std.specs.Prelude.{◌≡◌, ◌≢◌, ◌+◌, ◌++◌, ◌⊎◌, ℕ, zero, suc, List, [], ◌∷◌, Option, Some, None, bytes_eq, codes, if◌then◌else◌, length}
 use Rattle.std.specs.List.{AllByRecursion, AllZip}
 use Rattle.ev_typing.specs.declared.typing.Entry.{Entry}
 use Rattle.ev_typing.specs.declared.typing.Sequent.{Sequent}
@@ -51,11 +51,13 @@ size_limit = 65536
 abbrev pub depth_limit : ℕ
 depth_limit = 512
 
--- the goal follows by the step's rule from the subgoals, which keep the limits
+-- the goal follows by the step's rule from the subgoals
+abbrev pub ReadsUp : List Entry → Sequent → Step → List Sequent → Type 0
+ReadsUp env goal step subgoals = (r : BaseRule) × (rule_of step ≡ Some r) × Row env subgoals r goal
+
+-- the same, where the subgoals keep the limits
 pub record GivesGoals (env : List Entry) (goal : Sequent) (step : Step) (subgoals : List Sequent) : Type 0 where
-  pub rule : BaseRule
-  pub is : rule_of step ≡ Some rule
-  pub row : Row env subgoals rule goal
+  pub follows : ReadsUp env goal step subgoals
   pub small : AllByRecursion (IsWithin size_limit depth_limit) subgoals
 
 -- what a step does to a goal: it gives subgoals, `open` leaves the goal aside, or it gives none
@@ -69,19 +71,23 @@ abbrev pub outcome_with : ℕ → Outcome
 outcome_with zero = Complete
 outcome_with (suc k) = Partial (suc k)
 
--- What follows a step, number n, that did this to the first goal, where k goals were left aside and `goals` stand behind it; `Rest` is
--- the replay of the later steps.
-abbrev pub AfterStep : ℕ → Applied → ℕ → List Sequent → (ℕ → List Sequent → Type 0) → Outcome → Type 0
-AfterStep n (Goals subgoals) k goals Rest o = Rest k (subgoals ++ goals)
-AfterStep n Left k goals Rest o = Rest (k + 1) goals
-AfterStep n Refused k goals Rest o = o ≡ Broken n
+-- where k goals were left aside and `goals` stand behind the first: what a step that did this to the first leaves of them
+abbrev pub Leaves : Applied → ℕ → List Sequent → ℕ → List Sequent → Type 0
+Leaves (Goals subgoals) k goals k' goals' = (k' ≡ k) × (goals' ≡ subgoals ++ goals)
+Leaves Left k goals k' goals' = (k' ≡ k + 1) × (goals' ≡ goals)
+Leaves Refused k goals k' goals' = ⊥
+
+-- the step, applied to the first goal, leads from k goals left aside and the goals behind it to these
+abbrev pub Advances : List Entry → ℕ → List Sequent → Sequent → Step → ℕ → List Sequent → Type 0
+Advances env k goals goal step k' goals' = (a : Applied) × Applies env goal step a × Leaves a k goals k' goals'
 
 -- the replay of steps from number n on, after k goals were left aside: each is applied to the first goal, and its subgoals take its place
 abbrev pub ReplaysFrom : List Entry → ℕ → ℕ → List Sequent → List Step → Outcome → Type 0
 ReplaysFrom env n k goals [] o = o ≡ outcome_with (k + length goals)
 ReplaysFrom env n k [] (step ∷ steps) o = o ≡ Broken n
 ReplaysFrom env n k (goal ∷ goals) (step ∷ steps) o =
-    (a : Applied) × Applies env goal step a × AfterStep n a k goals (λ k' goals'. ReplaysFrom env (n + 1) k' goals' steps o) o
+    (Applies env goal step Refused × (o ≡ Broken n))
+    ⊎ ((k' : ℕ) × (goals' : List Sequent) × Advances env k goals goal step k' goals' × ReplaysFrom env (n + 1) k' goals' steps o)
 
 -- the replay of all steps, numbered from 1, on one goal
 abbrev pub Replays : List Entry → Sequent → List Step → Outcome → Type 0
