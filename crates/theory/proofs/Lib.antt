@@ -4,5 +4,6 @@ pub mod ReadingLaws
 pub mod ScriptLaws
 pub mod StepLaws
 pub mod IndexLaws
+pub mod ReportLaws
 pub mod FormulaLaws
 pub mod ReadLaws

@@ -70,3 +70,58 @@ fn steps_for<'a>(index: &ProofIndex, proofs: &'a StoredProofs, label: &Name) -> 
     }
     Some(&proof.steps)
 }
+
+/// A formula as a goal without context and hypotheses.
+fn closed(alloc: Global, formula: &Tree) -> Result<Sequent, NoMemory>
+    ensures { IfOk result (λ s. s ≡ closed formula.now) }
+{
+    Ok(Sequent {
+        context: Tys::new(alloc),
+        hyps: Trees::new(alloc),
+        goal: formula.try_copy(alloc)?,
+    })
+}
+
+/// The status of a formula with the steps that are stored for it.
+fn status_with<L: Ledger>(
+    alloc: Global,
+    env: &Env,
+    stored: Option<&Steps>,
+    formula: &Tree,
+    counter: &mut Counter<L>,
+) -> Result<Status, NoMemory>
+    requires { env.now ≡ [] }
+    ensures { IfOk result (λ st. IsStatus (option_copied stored.entry) formula.now st) }
+{
+    let Some(steps) = stored else {
+        return Ok(Status::NoProof);
+    };
+    let goal = closed(alloc, formula)?;
+    match replay(alloc, env, goal, steps.as_slice(), counter)? {
+        Outcome::Complete => Ok(Status::Proved),
+        Outcome::Partial(left) => Ok(Status::Partial(left)),
+        Outcome::Broken(step) => Ok(Status::Broken(step)),
+    }
+}
+
+/// The status of each theorem, in order.
+pub fn statuses<L: Ledger>(
+    alloc: Global,
+    theory: &Theory,
+    proofs: &StoredProofs,
+    counter: &mut Counter<L>,
+) -> Result<Statuses, NoMemory>
+    ensures { IfOk result (λ sts. AllZip (HasStatus proofs.now theory.now.name) theory.now.theorems sts) }
+{
+    let env = Env::new(alloc);
+    let index = index_of(alloc, &theory.name, proofs)?;
+    let theorems = theory.theorems.as_slice();
+    let mut statuses = Statuses::new(alloc);
+    for at in 0..theorems.len() {
+        let theorem = &theorems[at];
+        let steps = steps_for(&index, proofs, &theorem.label);
+        let status = status_with(alloc, &env, steps, &theorem.goal, counter)?;
+        statuses.push(alloc, status)?;
+    }
+    Ok(statuses)
+}
