@@ -7,6 +7,7 @@ pub mod list;
 pub mod obligation;
 pub mod shared;
 pub mod strings;
+pub mod term_laws;
 pub mod tree;
 pub mod types;
 pub mod values;
@@ -18,8 +19,8 @@ pub use shared::Shared;
 pub use strings::{Bytes, Name, Names};
 pub use tree::{
     Tree, Trees, bounds_of, extent, instantiate_types, loose, make_lit, make_node, make_var, same,
-    same_all, shift, shift_fits, substitute, substitute_fits, trees_extent, type_extent, type_params,
-    types_extent, types_params,
+    same_all, shift, shift_fits, substitute, substitute_fits, trees_extent, type_extent,
+    type_params, types_extent, types_params,
 };
 pub use types::{Sym, Ty, Tys, binds, instantiate_list, instantiate_type};
 pub use values::{NoMemory, Same, TryCopy};
@@ -32,3 +33,6 @@ pub type Nums = ListOf<u128>;
 
 /// Where a node stands in a term: child numbers from 1, the first that of the root's child.
 pub type Place = ListOf<u32>;
+
+#[cfg(test)]
+mod tests;
