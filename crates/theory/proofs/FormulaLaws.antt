@@ -95,15 +95,16 @@ mutual
       let h : vs' ≡ vs = cc in
       let ih = literal_unique Q Q' vs ws ws' l (subst (λ xs. Literal Q' xs ws') h l') in
       chain_unique c (joined c P Q) R R' ws rest rest' k
-          (subst (λ A. Chain c (joined c P A) ws R' rest') (sym ih.0) (subst (λ xs. Chain c (joined c P Q') xs R' rest') (sym ih.1) k')) n n'
+      (subst (λ A. Chain c (joined c P A) ws R' rest') (sym ih.0) (subst (λ xs. Chain c (joined c P Q') xs R' rest') (sym ih.1) k')) n n'
 
   pub conjunction_unique : (R R' : Term) (ts rest rest' : List Mark) → Conjunction R ts rest → Conjunction R' ts rest' → EndsConjunction rest → EndsConjunction rest' → (R ≡ R') × (rest ≡ rest')
   conjunction_unique R R' ts rest rest' (chained c P _ _ us _ is l k) (chained c' P' _ _ us' _ is' l' k') n n' =
       let ih = literal_unique P P' ts us us' l l' in
       let same : Chain c' P us R' rest' = subst (λ A. Chain c' A us R' rest') (sym ih.0) (subst (λ xs. Chain c' P' xs R' rest') (sym ih.1) k') in
       elim (same_chain c c' P R R' us rest rest' k same (n c' is') (n' c is)) [
-        inl e ↦ chain_unique c P R R' us rest rest' k (subst (λ d. Chain d P us R' rest') (sym e) same) (n c is) (n' c is)
-      | inr e ↦ e ]
+        | inl e ↦ chain_unique c P R R' us rest rest' k (subst (λ d. Chain d P us R' rest') (sym e) same) (n c is) (n' c is)
+        | inr e ↦ e
+      ]
 
   pub predicate_unique : (R R' : Term) (ts rest rest' : List Mark) → Predicate R ts rest → Predicate R' ts rest' → EndsPredicate rest → EndsPredicate rest' → (R ≡ R') × (rest ≡ rest')
   predicate_unique R R' ts rest rest' (alone _ _ _ l) (alone _ _ _ l') n n' = conjunction_unique R R' ts rest rest' l l' (ends_both rest n) (ends_both rest' n')

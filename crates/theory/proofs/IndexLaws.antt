@@ -8,7 +8,7 @@ use Rattle.theory.specs.Reports.{is_for, IsIndexOf}
 use Rattle.theory.proofs.StepLaws.{pushed}
 
 chosen : (all : List StoredProof) (old now : Option ℕ) (b : Bool) (at : ℕ) (p : StoredProof) (first : Option StoredProof) → now ≡ cond b (Some at) old → slice_get all at ≡ Some p
-      → option_and_then (slice_get all) old ≡ first → option_and_then (slice_get all) now ≡ cond b (Some p) first
+    → option_and_then (slice_get all) old ≡ first → option_and_then (slice_get all) now ≡ cond b (Some p) first
 chosen all old now true at p first e s h = ap (option_and_then (slice_get all)) e ∙ s
 chosen all old now false at p first e s h = ap (option_and_then (slice_get all)) e ∙ h
 

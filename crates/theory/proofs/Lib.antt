@@ -5,5 +5,6 @@ pub mod ScriptLaws
 pub mod StepLaws
 pub mod IndexLaws
 pub mod ReportLaws
+pub mod AnswerLaws
 pub mod FormulaLaws
 pub mod ReadLaws

@@ -87,6 +87,7 @@ leads_on text marks rest m after l ne e = record {
         let g : Some (m, after) ≡ Some (m', after') = e ∙ ap mark_front (sym l.skipped) ∙ f in
         let p : ◌≡◌ {A = Front} (m, after) (m', after') = cc in
         (ap (λ (q : Front). q.0) p, ap (λ (q : Front). q.1) p)
+
     at : (ms : List Mark) → (more : List Mark) × (ms ≡ marks ++ more) × AreMarks rest more
         → (more : List Mark) × (ms ≡ (marks ++ m ∷ []) ++ more) × AreMarks (skip_blanks after) more
     at ms ([], f, b) = let g = full_rest rest l.skipped ne in absurd (cc)

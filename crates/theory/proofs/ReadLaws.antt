@@ -73,7 +73,7 @@ no_literal_under levels zero from marks opens none = let e : from + 0 ≡ from =
 no_literal_under levels (suc n) from marks opens none =
     let e : from + suc n ≡ from + n + 1 = omega arith in
     no_literal_under levels n from marks (λ k lt. opens k (omega arith))
-        (no_literal_inside levels (drop (from + n) marks) (drop (from + n + 1) marks) (opens n (omega arith)) (subst (λ i. NoLiteral levels (drop i marks)) e none))
+    (no_literal_inside levels (drop (from + n) marks) (drop (from + n + 1) marks) (opens n (omega arith)) (subst (λ i. NoLiteral levels (drop i marks)) e none))
 
 -- what begins with a literal extends it
 extends_conjunction : (P R : Term) (ts us rest : List Mark) → Literal P ts us → Conjunction R ts rest → EndsConjunction rest → ExtendsToConjunction P us R rest
@@ -176,8 +176,9 @@ mixed levels c d P A us vs ws xs is e k n is' f R rest h =
 extends_unique : (P A A' : Term) (us vs vs' : List Mark) → ExtendsToConjunction P us A vs → ExtendsToConjunction P us A' vs' → (A ≡ A') × (vs ≡ vs')
 extends_unique P A A' us vs vs' (c, is, k, n) (c', is', k', n') =
     elim (same_chain c c' P A A' us vs vs' k k' (n c' is') (n' c is)) [
-      inl e ↦ chain_unique c P A A' us vs vs' k (subst (λ d. Chain d P us A' vs') (sym e) k') (n c is) (n' c is)
-    | inr e ↦ e ]
+      | inl e ↦ chain_unique c P A A' us vs vs' k (subst (λ d. Chain d P us A' vs') (sym e) k') (n c is) (n' c is)
+      | inr e ↦ e
+    ]
 
 depth_by_one : (A R : Term) (vs rest : List Mark) → ExtendsByOne A vs R rest → depth A ≤ depth R
 depth_by_one A R vs rest (inl h) = omega (arith, ap depth h.0)

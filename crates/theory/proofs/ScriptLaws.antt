@@ -220,9 +220,13 @@ not_two_words words items line e f n = short_words items n ∙ ap (λ ws. head_o
 pub with_theory : (lines : List (Bor (List ℕ))) (name : List ℕ) (start end : ℕ) (body after : List (Bor (List ℕ))) (t : Theory) (ps : List StoredProof)
     → IsUnitAt lines (Put name) start end → body ≡ slice_range lines start end → after ≡ drop (end + 1) lines → t.name ≡ name → AreTheorems (texts body) t.theorems → AreProofs (texts after) ps
     → AreScript (texts lines) (Some t) ps
-with_theory lines name start end body after t ps u e f n h k =
-    (record { head = Put name; body = texts (slice_range lines start end) }, texts (drop (end + 1) lines), u.is,
-        (ap Put (sym n), subst (λ b. AreTheorems (texts b) t.theorems) e h), subst (λ b. AreProofs (texts b) ps) f k)
+with_theory lines name start end body after t ps u e f n h k = (
+  record { head = Put name; body = texts (slice_range lines start end) },
+  texts (drop (end + 1) lines),
+  u.is,
+  (ap Put (sym n), subst (λ b. AreTheorems (texts b) t.theorems) e h),
+  subst (λ b. AreProofs (texts b) ps) f k,
+)
 
 -- lines that begin with a unit are not blank
 blank_front : (lines : List (List ℕ)) → list_all are_blanks lines ≡ true → unit_front lines ≡ None
@@ -283,12 +287,11 @@ pub on_lines : (lines rest rest' body : List (Bor (List ℕ))) (done done' : Lis
 on_lines lines rest rest' body done done' head start end p s u e f is g full =
     let is' : IsProof (record { head = head; body = texts (slice_range rest start end) }) p = subst (λ b. IsProof (record { head = head; body = texts b }) p) e is in
     subst (λ d. ProofsSoFar (texts lines) d (texts rest')) (sym g) (subst (λ r. ProofsSoFar (texts lines) (done ++ p ∷ []) (texts r)) (sym f)
-        (proofs_on (texts lines) done (texts rest) (texts (drop (end + 1) rest)) (record { head = head; body = texts (slice_range rest start end) }) p s u.is is' full))
+    (proofs_on (texts lines) done (texts rest) (texts (drop (end + 1) rest)) (record { head = head; body = texts (slice_range rest start end) }) p s u.is is' full))
 
 pub none_on_lines : (lines rest body : List (Bor (List ℕ))) (done : List StoredProof) (head : Head) (start end : ℕ) → ProofsSoFar (texts lines) done (texts rest)
     → IsUnitAt rest head start end → body ≡ slice_range rest start end → ((p : StoredProof) → IsProof (record { head = head; body = texts body }) p → ⊥)
     → (list_all are_blanks (texts rest) ≡ true → ⊥) → (ps : List StoredProof) → AreProofs (texts lines) ps → ⊥
 none_on_lines lines rest body done head start end s u e none full =
     no_proof_here (texts lines) done (texts rest) (texts (drop (end + 1) rest)) (record { head = head; body = texts (slice_range rest start end) }) s u.is
-        (λ p is. none p (subst (λ b. IsProof (record { head = head; body = texts b }) p) (sym e) is)) full
-
+    (λ p is. none p (subst (λ b. IsProof (record { head = head; body = texts b }) p) (sym e) is)) full

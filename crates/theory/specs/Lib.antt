@@ -5,3 +5,4 @@ pub mod Theorems
 pub mod Steps
 pub mod Scripts
 pub mod Reports
+pub mod Answers

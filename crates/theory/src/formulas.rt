@@ -15,6 +15,7 @@ use std::alloc::Global;
 
 /// How deep a formula may be nested, and how many nodes it may have.
 const NESTING_LIMIT: u32 = 200;
+
 const SIZE_LIMIT: u64 = 65_536;
 
 /// A kind of formula that a reader looks for.
@@ -232,12 +233,7 @@ fn extend(
 
 /// The literal at a place where no parenthesis opens.
 #[cycle(read)]
-fn primary(
-    alloc: Global,
-    marks: &[Mark],
-    at: usize,
-    levels: u32,
-) -> Result<Option<Found>, NoMemory>
+fn primary(alloc: Global, marks: &[Mark], at: usize, levels: u32) -> Result<Option<Found>, NoMemory>
     requires deep { 1 ≤ levels }
     requires closed { (us : List Mark) → drop at marks.now ≢ Open ∷ us }
     ensures gives { IfOk result (Gives (λ R rest. Literal R (drop at marks.now) rest) levels marks.now) }

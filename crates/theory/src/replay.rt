@@ -15,6 +15,7 @@ use std::sync::ledger::Ledger;
 
 /// How large a goal may be, and how deep.
 const SIZE_LIMIT: u64 = 65_536;
+
 const DEPTH_LIMIT: u64 = 512;
 
 /// The sequent with another goal.
@@ -29,12 +30,7 @@ fn with_goal(alloc: Global, sequent: &Sequent, goal: &Tree) -> Result<Sequent, N
 }
 
 /// The sequent with one more hypothesis and another goal.
-fn assuming(
-    alloc: Global,
-    sequent: &Sequent,
-    hyp: &Tree,
-    goal: &Tree,
-) -> Result<Sequent, NoMemory>
+fn assuming(alloc: Global, sequent: &Sequent, hyp: &Tree, goal: &Tree) -> Result<Sequent, NoMemory>
     ensures { IfOk result (λ s. s ≡ (sequent.now ▹ hyp.now ⊢ goal.now)) }
 {
     let mut assumed = with_goal(alloc, sequent, goal)?;

@@ -84,7 +84,11 @@ fn append_theorems(
 }
 
 /// The report of a script, whose proofs are replayed.
-pub fn report<L: Ledger>(alloc: Global, script: &Script, counter: &mut Counter<L>) -> Result<Vec<u8>, NoMemory>
+pub fn report<L: Ledger>(
+    alloc: Global,
+    script: &Script,
+    counter: &mut Counter<L>,
+) -> Result<Vec<u8>, NoMemory>
     ensures { IfOk result (λ text. IsReportOf script.now.theory script.now.proofs text.items) }
 {
     let mut text = Vec::new(alloc);
@@ -93,6 +97,12 @@ pub fn report<L: Ledger>(alloc: Global, script: &Script, counter: &mut Counter<L
     };
     let statuses = statuses(alloc, theory, &script.proofs, counter)?;
     append_theory(&mut text, &theory.name)?;
-    append_theorems(alloc, &mut text, &theory.name, theory.theorems.as_slice(), statuses.as_slice())?;
+    append_theorems(
+        alloc,
+        &mut text,
+        &theory.name,
+        theory.theorems.as_slice(),
+        statuses.as_slice(),
+    )?;
     Ok(text)
 }

@@ -14,7 +14,7 @@ returns-in_default-2-clause-none c =
     let ms = c.as_slice.result.now in
     let are = some_holds (λ (v : Vec Mark Global). AreMarks c.args.text.now v.items) _ c.in-Some.marks c.in_ok-marks.ensures.found c.in-Some.is in
     formula_none c.args.text.now ms (subst (AreMarks c.args.text.now) (sym c.as_slice.ensures.value) are)
-        (gives_none (λ R rest. Reads want.Predicate R (drop 0 ms) rest) 200 ms _ c.in_ok-found.ensures.gives c.in_default-2.not-Some)
+    (gives_none (λ R rest. Reads want.Predicate R (drop 0 ms) rest) 200 ms _ c.in_ok-found.ensures.gives c.in_default-2.not-Some)
 
 pub returns-then-found-len-clause-none : goal.returns-then-found-len-clause-none
 returns-then-found-len-clause-none c = λ P p.

@@ -8,7 +8,7 @@ loop-rest-init c = leads_init _ _ _ c.new-marks.ensures.items c.skip_blanks-rest
 pub loop-rest-preserved : goal.loop-rest-preserved
 loop-rest-preserved c =
     leads_step c.args.text.now c.loop-rest.marks.items _ c.loop-rest.rest.now _ c.in-Some.mark c.in-Some.after.now c.loop-rest.invariant
-        (not_none _ _ c.is_empty.ensures c.loop-rest-test.true) c.in-Some.ensures.exact c.in_ok-push-in-Some.ensures.items c.skip_blanks-rest-in-Some.ensures
+    (not_none _ _ c.is_empty.ensures c.loop-rest-test.true) c.in-Some.ensures.exact c.in_ok-push-in-Some.ensures.items c.skip_blanks-rest-in-Some.ensures
 
 pub loop-rest-smaller : goal.loop-rest-smaller
 loop-rest-smaller c =
@@ -19,7 +19,7 @@ loop-rest-smaller c =
 pub returns-in-None-clause-none : goal.returns-in-None-clause-none
 returns-in-None-clause-none c =
     leads_none c.args.text.now c.loop-rest.marks.items c.loop-rest.rest.now c.loop-rest.invariant
-        (not_none _ _ c.is_empty.ensures c.loop-rest-test.true) (λ m after e. let f = c.in-None.ensures.exact in cc)
+    (not_none _ _ c.is_empty.ensures c.loop-rest-test.true) (λ m after e. let f = c.in-None.ensures.exact in cc)
 
 pub returns-clause-found : goal.returns-clause-found
 returns-clause-found c = leads_end _ _ _ c.loop-rest.invariant (is_none _ _ c.is_empty.ensures c.loop-rest-test.false)
