@@ -44,4 +44,4 @@ no_three env Ss (k ∷ l ∷ m ∷ ns) rule S all h f =
     let q = named_more Ss l (m ∷ ns) all.1.0.0 all.1.0.1 in
     let r = named_more Ss m ns all.1.1.0.0 all.1.1.0.1 in
     row_of_three env p.0 q.0 r.0 (named Ss ns) rule S
-        (subst (λ ps. Row env ps rule S) (p.1 ∙ ap (λ ps. p.0 ∷ ps) (q.1 ∙ ap (λ ps. q.0 ∷ ps) r.1)) f)
+    (subst (λ ps. Row env ps rule S) (p.1 ∙ ap (λ ps. p.0 ∷ ps) (q.1 ∙ ap (λ ps. q.0 ∷ ps) r.1)) f)

@@ -4,3 +4,6 @@
 pub mod rules;
 
 pub use rules::{BaseRule, Line, Lines, infers};
+
+#[cfg(test)]
+mod tests;

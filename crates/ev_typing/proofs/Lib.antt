@@ -1,1 +1,12 @@
 pub mod Views
+pub mod Laws
+pub mod Proper
+pub mod Names
+pub mod Entries
+pub mod Signatures
+pub mod Checks
+pub mod Keeps
+pub mod Wholes
+pub mod TypeInstances
+pub mod ProperSignatures
+pub mod SampleProofs

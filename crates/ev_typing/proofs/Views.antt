@@ -1,12 +1,11 @@
 -- What a term is, from its views.
-use Rattle.std.proofs.Common.{◌≡◌, ◌≢◌, ℕ, Bool, IsTrue, length, ◌==◌, List, [], ◌∷◌, Option, Some, None, refl, ap, sym, ◌∙◌, arith}
+use Rattle.std.proofs.Common.{◌≡◌, ◌≢◌, ℕ, Bool, IsTrue, length, ◌==◌, List, [], ◌∷◌, Option, Some, None, ap, sym, ◌∙◌, arith}
 use Rattle.std.proofs.lemmas.Bool.Decides.{nat_tests}
 use Rattle.std.specs.Prelude.{IfNone}
 use Rattle.ev_terms.specs.declared.types.Tys.{Tys, Empty}
 use Rattle.ev_terms.specs.declared.types.Sym.{Sym}
-use Rattle.ev_terms.specs.declared.types.Sym.TheVariants.{Base, User}
+use Rattle.ev_terms.specs.declared.types.Sym.TheVariants.{Base}
 use Rattle.ev_terms.specs.Term.{Term, Terms, var, lit, node, nil, cons, terms, term_list, sym_of, types_of, children, terms-term_list, term_list-terms}
-use Rattle.ev_typing.specs.Forms.{truth, falsity}
 
 pub node_by_views : (t : Term) (s : Sym) (a : Tys) (ts : List Term) → sym_of t ≡ Some s → types_of t ≡ Some a → ts ≡ children t → t ≡ node s a (terms ts)
 node_by_views (var i) s a ts p q r = cc

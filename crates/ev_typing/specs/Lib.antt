@@ -2,3 +2,15 @@ pub mod Base
 pub mod Forms
 pub mod Connectives
 pub mod Sequents
+pub mod Profiles
+pub mod Env
+pub mod Typing
+pub mod Proper
+pub mod Occurs
+pub mod Table
+pub mod WellFormed
+pub mod Numbered
+pub mod Instances
+pub mod Parts
+pub mod TypingLaws
+pub mod Samples

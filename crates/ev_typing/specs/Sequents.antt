@@ -1,5 +1,5 @@
 -- Sequents with another goal or one more hypothesis, and how large they are.
-use Rattle.std.specs.Prelude.{◌+◌, ◌++◌, ◌≤◌, ℕ, List, [], ◌∷◌, max}
+use Rattle.std.specs.Prelude.{◌+◌, ◌++◌, ◌≤◌, ℕ, [], ◌∷◌, max}
 use Rattle.ev_terms.specs.Term.{Term, terms}
 use Rattle.ev_terms.specs.Measures.{size, sizes, depth, depths, types_size, types_depth}
 use Rattle.ev_typing.specs.declared.typing.Sequent.{Sequent}

@@ -19,7 +19,9 @@ pub enum Connective {
 
 /// The rows of the propositional symbols in the table of base symbols, from 0.
 const TRUE: u16 = 0;
+
 const FALSE: u16 = 1;
+
 const NOT: u16 = 2;
 
 fn row_of(connective: Connective) -> u16

@@ -2,15 +2,24 @@
 //! Maamria, Practical Theory Extension in Event-B.
 #![tactic(auto)]
 
+pub mod checking;
 pub mod connectives;
 pub mod environment;
+mod instances;
+pub mod table;
+#[cfg(test)]
+mod tests;
 pub mod typing;
+pub mod typing_laws;
 
+pub use checking::{are_proper, is_proper, type_of};
 pub use connectives::{
     Connective, is_falsity, is_truth, joined_parts, make_falsity, make_joined, make_negation,
     make_truth,
 };
 pub use environment::Env;
+pub use table::{BASE_COUNT, Children, Form, Row, Symbols, base_symbols};
 pub use typing::{
     Con, Cons, DataDecl, Entry, Sequent, Sequents, Signature, Var, Vars, sequent_extent,
 };
+pub use typing_laws::{signatures_are_proper, type_is_unique, types_are_kept, wholes_keep_types};

@@ -63,6 +63,140 @@ pub struct Sequent {
 
 pub type Sequents = ListOf<Sequent>;
 
+impl TryCopy for Var {
+    fn try_copy(&self, alloc: Global) -> Result<Var, NoMemory> {
+        Ok(Var {
+            name: self.name.try_copy(alloc)?,
+            ty: self.ty.try_copy(alloc)?,
+        })
+    }
+}
+
+impl Same for Var {
+    fn same(&self, other: &Var) -> bool {
+        self.name.same(&other.name) && self.ty.same(&other.ty)
+    }
+}
+
+impl TryCopy for Con {
+    fn try_copy(&self, alloc: Global) -> Result<Con, NoMemory> {
+        Ok(Con {
+            name: self.name.try_copy(alloc)?,
+            fields: self.fields.try_copy(alloc)?,
+        })
+    }
+}
+
+impl Same for Con {
+    fn same(&self, other: &Con) -> bool {
+        self.name.same(&other.name) && self.fields.same(&other.fields)
+    }
+}
+
+impl TryCopy for DataDecl {
+    fn try_copy(&self, alloc: Global) -> Result<DataDecl, NoMemory> {
+        Ok(DataDecl {
+            name: self.name.try_copy(alloc)?,
+            params: self.params,
+            cons: self.cons.try_copy(alloc)?,
+        })
+    }
+}
+
+impl Same for DataDecl {
+    fn same(&self, other: &DataDecl) -> bool {
+        self.name.same(&other.name) && self.params == other.params && self.cons.same(&other.cons)
+    }
+}
+
+impl TryCopy for Signature {
+    fn try_copy(&self, alloc: Global) -> Result<Signature, NoMemory> {
+        Ok(Signature {
+            name: self.name.try_copy(alloc)?,
+            params: self.params,
+            args: self.args.try_copy(alloc)?,
+            result: self.result.try_copy(alloc)?,
+        })
+    }
+}
+
+impl Same for Signature {
+    fn same(&self, other: &Signature) -> bool {
+        if !self.name.same(&other.name) || self.params != other.params {
+            return false;
+        }
+        self.args.same(&other.args) && self.result.same(&other.result)
+    }
+}
+
+fn copy_condition(alloc: Global, condition: &Option<Tree>) -> Result<Option<Tree>, NoMemory>
+    ensures { IfOk result (λ copy. copy ≡ condition.now) }
+{
+    match condition {
+        Some(tree) => Ok(Some(tree.try_copy(alloc)?)),
+        None => Ok(None),
+    }
+}
+
+fn same_condition(condition: &Option<Tree>, other: &Option<Tree>) -> bool
+    ensures { IsTrue result ↔ (condition.now ≡ other.now) }
+{
+    match (condition, other) {
+        (Some(tree), Some(other)) => tree.same(other),
+        (None, None) => true,
+        _ => false,
+    }
+}
+
+impl TryCopy for Entry {
+    fn try_copy(&self, alloc: Global) -> Result<Entry, NoMemory> {
+        match self {
+            Entry::Data(data) => Ok(Entry::Data(data.try_copy(alloc)?)),
+            Entry::Constant(signature, condition) => {
+                let condition = copy_condition(alloc, condition)?;
+                Ok(Entry::Constant(signature.try_copy(alloc)?, condition))
+            }
+            Entry::Direct(signature, condition, body) => {
+                let condition = copy_condition(alloc, condition)?;
+                let body = body.try_copy(alloc)?;
+                Ok(Entry::Direct(signature.try_copy(alloc)?, condition, body))
+            }
+            Entry::Recursive(signature, condition, place, bodies) => {
+                let condition = copy_condition(alloc, condition)?;
+                let bodies = bodies.try_copy(alloc)?;
+                Ok(Entry::Recursive(signature.try_copy(alloc)?, condition, *place, bodies))
+            }
+        }
+    }
+}
+
+impl Same for Entry {
+    fn same(&self, other: &Entry) -> bool {
+        match (self, other) {
+            (Entry::Data(data), Entry::Data(other)) => data.same(other),
+            (Entry::Constant(signature, condition), Entry::Constant(other, with)) => {
+                signature.same(other) && same_condition(condition, with)
+            }
+            (Entry::Direct(signature, condition, body), Entry::Direct(other, with, term)) => {
+                if !signature.same(other) || !same_condition(condition, with) {
+                    return false;
+                }
+                body.same(term)
+            }
+            (
+                Entry::Recursive(signature, condition, place, bodies),
+                Entry::Recursive(other, with, at, terms),
+            ) => {
+                if !signature.same(other) || !same_condition(condition, with) || *place != *at {
+                    return false;
+                }
+                bodies.same(terms)
+            }
+            _ => false,
+        }
+    }
+}
+
 impl TryCopy for Sequent {
     fn try_copy(&self, alloc: Global) -> Result<Sequent, NoMemory> {
         Ok(Sequent {
@@ -89,7 +223,9 @@ pub fn sequent_extent(sequent: &Sequent) -> Extent
     let hyps = trees_extent(sequent.hyps.as_slice());
     let goal = extent(&sequent.goal);
     Extent {
-        size: context.size.saturating_add(hyps.size.saturating_add(goal.size)),
+        size: context
+            .size
+            .saturating_add(hyps.size.saturating_add(goal.size)),
         depth: context.depth.max(hyps.depth.max(goal.depth)),
     }
 }

@@ -90,7 +90,6 @@ pub fn mark_front(text: &[u8]) -> Option<(Mark, &[u8])>
 }
 
 /// The marks of a text, or `None` where it is not made of marks.
-
 pub fn marks_of(alloc: Global, text: &[u8]) -> Result<Option<Vec<Mark>>, NoMemory>
     ensures found { IfOk result (λ o. IfSome o (λ marks. AreMarks text.now marks.items)) }
     ensures none { IfOk result (λ o. IfNone o ((ms : List Mark) → ¬ AreMarks text.now ms)) }

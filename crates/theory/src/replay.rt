@@ -1,4 +1,4 @@
-ghost use Rattle.std.specs.Prelude.{◌≡◌, ◌≢◌, ◌+◌, ◌<◌, ◌≤◌, ◌^◌, ◌++◌, [], ◌∷◌, ◌↔◌, List, IfNone, IfOk, IfSome, IsTrue, OnOk, reverse};
+ghost use Rattle.std.specs.Prelude.{◌≡◌, ◌≢◌, ◌+◌, ◌<◌, ◌≤◌, ◌^◌, ◌++◌, [], ◌∷◌, ◌↔◌, List, Some, IfNone, IfOk, IfSome, IsTrue, OnOk, reverse};
 ghost use Rattle.std.specs.List.{AllByRecursion};
 ghost use Rattle.ev_typing.specs.declared.typing.Sequent.{Sequent};
 ghost use Rattle.ev_typing.specs.Sequents.{◌⊢◌, ◌▹◌, IsWithin};
@@ -64,6 +64,15 @@ fn closing(
     }
 }
 
+/// The sequent as the only subgoal.
+fn single(alloc: Global, sequent: Sequent) -> Result<Option<Sequents>, NoMemory>
+    ensures { IfOk result (λ o. o ≡ Some (sequent ∷ [])) }
+{
+    let mut goals = Sequents::new(alloc);
+    goals.push(alloc, sequent)?;
+    Ok(Some(goals))
+}
+
 /// The subgoals from which the goal follows by the step's rule.
 fn subgoals_of(
     alloc: Global,
@@ -87,27 +96,15 @@ fn subgoals_of(
             None => Ok(None),
         },
         Step::OrI1 => match joined_parts(&goal.goal, Connective::Or) {
-            Some((left, _)) => {
-                let mut goals = Sequents::new(alloc);
-                goals.push(alloc, with_goal(alloc, goal, left)?)?;
-                Ok(Some(goals))
-            }
+            Some((left, _)) => single(alloc, with_goal(alloc, goal, left)?),
             None => Ok(None),
         },
         Step::OrI2 => match joined_parts(&goal.goal, Connective::Or) {
-            Some((_, right)) => {
-                let mut goals = Sequents::new(alloc);
-                goals.push(alloc, with_goal(alloc, goal, right)?)?;
-                Ok(Some(goals))
-            }
+            Some((_, right)) => single(alloc, with_goal(alloc, goal, right)?),
             None => Ok(None),
         },
         Step::ImpI => match joined_parts(&goal.goal, Connective::Implies) {
-            Some((left, right)) => {
-                let mut goals = Sequents::new(alloc);
-                goals.push(alloc, assuming(alloc, goal, left, right)?)?;
-                Ok(Some(goals))
-            }
+            Some((left, right)) => single(alloc, assuming(alloc, goal, left, right)?),
             None => Ok(None),
         },
         Step::Open => Ok(None),
