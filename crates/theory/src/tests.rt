@@ -98,7 +98,7 @@ fn a_read_that_fails_writes_nothing(rt: HostRuntime) -> Result<(), Fail> {
 
 #[test]
 fn what_is_no_script_is_refused(rt: HostRuntime) -> Result<(), Fail> {
-    let mut ends = ends(
+    let mut ends = make_ends(
         rt.alloc(),
         b"PUT a\nTHEOREM t: true & false or true\nEND\n",
         &[],
