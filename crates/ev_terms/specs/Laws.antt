@@ -1,10 +1,10 @@
 -- What holds of shift, substitution and type instance, for all terms, types and numbers.
-use Rattle.std.specs.Prelude.{◌≡◌, ℕ, ◌+◌, ◌-◌, ◌<◌, ◌≤◌, List, ◌++◌, length, map, slice_get, Some, max}
+use Rattle.std.specs.Prelude.{◌≡◌, ℕ, ◌+◌, ◌-◌, ◌*◌, ◌<◌, ◌≤◌, List, ◌++◌, length, map, slice_get, Some, max}
 use Rattle.ev_terms.specs.declared.types.Ty.{Ty, Param}
 use Rattle.ev_terms.specs.declared.types.Tys.{Tys}
 use Rattle.ev_terms.specs.Types.{type_list}
 use Rattle.ev_terms.specs.Term.{Term, var, terms}
-use Rattle.ev_terms.specs.Measures.{loose, all_loose, size, depth, depths, highest, params, type_params}
+use Rattle.ev_terms.specs.Measures.{loose, all_loose, size, depth, depths, highest, params, type_size, type_depth, type_params}
 use Rattle.ev_terms.specs.Subst.{shift_var, shift, lifts, inst, entry, subst, fill, type_inst, types_inst, type_at, retype, instance}
 
 -- Shifts.
@@ -215,3 +215,43 @@ HighestOfShift = (t : Term) (from by : ℕ) → highest (shift t from by) ≤ (l
 -- nor after a substitution
 abbrev pub HighestOfSubst : Type 0
 HighestOfSubst = (t : Term) (ts : List Term) → highest (subst t ts) ≤ max (loose t) (all_loose (terms ts)) + (depth t + depths (terms ts))
+
+-- a substitution multiplies the size by no more than that of its greatest term
+abbrev pub SizeOfInst : Type 0
+SizeOfInst = (t : Term) (m : ℕ) (σ : ℕ → Term) → ((i : ℕ) → size (σ i) ≤ m) → size (inst σ t) ≤ size t * m
+
+-- and has no type parameter but those of the term and of its terms
+abbrev pub ParamsOfInst : Type 0
+ParamsOfInst = (t : Term) (m : ℕ) (σ : ℕ → Term) → ((i : ℕ) → i < loose t → params (σ i) ≤ m) → params (inst σ t) ≤ max (params t) m
+
+-- a type instance multiplies the size by no more than that of its greatest type
+abbrev pub SizeOfRetype : Type 0
+SizeOfRetype = (t : Term) (m : ℕ) (θ : ℕ → Ty) → ((i : ℕ) → type_size (θ i) ≤ m) → size (retype θ t) ≤ size t * m
+
+-- and so for types
+abbrev pub SizeOfTypeInst : Type 0
+SizeOfTypeInst = (a : Ty) (m : ℕ) (θ : ℕ → Ty) → ((i : ℕ) → type_size (θ i) ≤ m) → type_size (type_inst θ a) ≤ type_size a * m
+
+-- and puts no more than its types below the leaves
+abbrev pub DepthOfRetype : Type 0
+DepthOfRetype = (t : Term) (m : ℕ) (θ : ℕ → Ty) → ((i : ℕ) → type_depth (θ i) ≤ m + 1) → depth (retype θ t) ≤ depth t + m
+
+-- and so for types
+abbrev pub DepthOfTypeInst : Type 0
+DepthOfTypeInst = (a : Ty) (m : ℕ) (θ : ℕ → Ty) → ((i : ℕ) → type_depth (θ i) ≤ m + 1) → type_depth (type_inst θ a) ≤ type_depth a + m
+
+-- it keeps the loose variables
+abbrev pub LooseOfRetype : Type 0
+LooseOfRetype = (t : Term) (θ : ℕ → Ty) → loose (retype θ t) ≡ loose t
+
+-- and the numbers of all variables
+abbrev pub HighestOfRetype : Type 0
+HighestOfRetype = (t : Term) (θ : ℕ → Ty) → highest (retype θ t) ≡ highest t
+
+-- and leaves the type parameters of its types alone
+abbrev pub ParamsOfRetype : Type 0
+ParamsOfRetype = (t : Term) (m : ℕ) (θ : ℕ → Ty) → ((i : ℕ) → i < params t → type_params (θ i) ≤ m) → params (retype θ t) ≤ m
+
+-- and so for types
+abbrev pub ParamsOfTypeInst : Type 0
+ParamsOfTypeInst = (a : Ty) (m : ℕ) (θ : ℕ → Ty) → ((i : ℕ) → i < type_params a → type_params (θ i) ≤ m) → type_params (type_inst θ a) ≤ m

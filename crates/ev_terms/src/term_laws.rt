@@ -1,4 +1,4 @@
-ghost use Rattle.ev_terms.specs.Laws.{ShiftsCommute, ShiftsMerge, ShiftByZero, ShiftIsInst, InstsCompose, InstByVariables, InstReadsLoose, LiftsKeepBound, LiftsShiftOuter, LiftsAdd, EntryIsGiven, EntryPastFalls, SubstsCompose, ShiftOfInst, InstOfShift, InstPastBinders, ShiftOfSubst, SubstOfShift, SubstUndoesShift, FillIsGiven, FillPastFalls, InstOfSubst, InstOfFill, ShiftOfFill, RetypeOfFill, RetypeOfShift, RetypeOfInst, InstanceOfSubst, RetypesCompose, TypeInstsCompose, InstancesCompose, TypeListsCompose, RetypeReadsParams, RetypeByParams, ClosedKeepsShift, ClosedKeepsInst, ClosedKeepsSubst, ClosedKeepsRetype, ClosedKeepsTypeInst, SizeOfShift, DepthOfShift, ParamsOfShift, LooseOfShift, LooseOfInst, DepthOfInst, HighestIsBounded, HighestOfShift, HighestOfSubst};
+ghost use Rattle.ev_terms.specs.Laws.{ShiftsCommute, ShiftsMerge, ShiftByZero, ShiftIsInst, InstsCompose, InstByVariables, InstReadsLoose, LiftsKeepBound, LiftsShiftOuter, LiftsAdd, EntryIsGiven, EntryPastFalls, SubstsCompose, ShiftOfInst, InstOfShift, InstPastBinders, ShiftOfSubst, SubstOfShift, SubstUndoesShift, FillIsGiven, FillPastFalls, InstOfSubst, InstOfFill, ShiftOfFill, RetypeOfFill, RetypeOfShift, RetypeOfInst, InstanceOfSubst, RetypesCompose, TypeInstsCompose, InstancesCompose, TypeListsCompose, RetypeReadsParams, RetypeByParams, ClosedKeepsShift, ClosedKeepsInst, ClosedKeepsSubst, ClosedKeepsRetype, ClosedKeepsTypeInst, SizeOfShift, DepthOfShift, ParamsOfShift, LooseOfShift, LooseOfInst, DepthOfInst, HighestIsBounded, HighestOfShift, HighestOfSubst, SizeOfInst, ParamsOfInst, SizeOfRetype, SizeOfTypeInst, DepthOfRetype, DepthOfTypeInst, LooseOfRetype, HighestOfRetype, ParamsOfRetype, ParamsOfTypeInst};
 
 /// Shifts commute, add up, and are substitutions of variables.
 pub fn shift_laws()
@@ -63,7 +63,7 @@ pub fn closed_term_laws()
     ensures type_inst { ClosedKeepsTypeInst }
 {}
 
-/// What shift and substitution do to sizes, depths and numbers of variables.
+/// What shift and substitution do to sizes, depths, type parameters and numbers of variables.
 pub fn measure_laws()
     ensures size_shift { SizeOfShift }
     ensures depth_shift { DepthOfShift }
@@ -74,4 +74,18 @@ pub fn measure_laws()
     ensures highest { HighestIsBounded }
     ensures highest_shift { HighestOfShift }
     ensures highest_subst { HighestOfSubst }
+    ensures size_inst { SizeOfInst }
+    ensures params_inst { ParamsOfInst }
+{}
+
+/// What a type instance does to them.
+pub fn type_instance_measure_laws()
+    ensures size { SizeOfRetype }
+    ensures type_size { SizeOfTypeInst }
+    ensures depth { DepthOfRetype }
+    ensures type_depth { DepthOfTypeInst }
+    ensures loose { LooseOfRetype }
+    ensures highest { HighestOfRetype }
+    ensures params { ParamsOfRetype }
+    ensures type_params { ParamsOfTypeInst }
 {}

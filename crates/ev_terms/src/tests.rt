@@ -127,6 +127,19 @@ fn a_list_grows_at_its_end(rt: HostRuntime) -> Result<(), Fail> {
 }
 
 #[test]
+fn numbers_of_variables_have_an_end(rt: HostRuntime) -> Result<(), Fail> {
+    let alloc = rt.alloc();
+    let variable = make_var(alloc, 0)?;
+    assert!(rt; shift_fits(&variable, 0, u32::MAX - 1));
+    assert!(rt; !shift_fits(&variable, 0, u32::MAX));
+    let far = make_var(alloc, u32::MAX)?;
+    let one = one(alloc, make_var(alloc, 0)?)?;
+    assert!(rt; substitute_fits(&variable, &one));
+    assert!(rt; !substitute_fits(&far, &one));
+    Ok(())
+}
+
+#[test]
 fn lists_of_numbers_are_copied(rt: HostRuntime) -> Result<(), Fail> {
     let alloc = rt.alloc();
     let ids = Ids::from_vec([3u32, 1].to_vec(alloc)?).try_copy(alloc)?;

@@ -1,6 +1,7 @@
 use Rattle.ev_terms.proofs.ListLaws.{size-shift, depth-shift, loose_shift_le, highest_le}
 use Rattle.ev_terms.proofs.AnyLaws.{params-shift}
 use Rattle.ev_terms.proofs.Fits.{loose_inst_le, depth_inst_le, highest_shift_le, highest_subst_le}
+use Rattle.ev_terms.proofs.Sizes.{size_inst_le, params_inst_le}
 use Rattle.ev_terms.proofs.term_laws.measure_laws.Goals as goal
 
 pub returns : goal.returns
@@ -14,4 +15,6 @@ returns c = record {
   highest = highest_le;
   highest_shift = highest_shift_le;
   highest_subst = highest_subst_le;
+  size_inst = size_inst_le;
+  params_inst = params_inst_le;
 }
