@@ -2,6 +2,7 @@ pub mod WordLaws
 pub mod MarkLaws
 pub mod ReadingLaws
 pub mod ScriptLaws
+pub mod TypedLaws
 pub mod StepLaws
 pub mod IndexLaws
 pub mod ReportLaws

@@ -2,12 +2,13 @@
 use Rattle.std.proofs.Common.{◌≡◌, ◌≤◌, ◌<◌, ◌+◌, ◌++◌, ℕ, suc, List, [], ◌∷◌, Option, Some, None, Result, Ok, Err, OnOk, append_assoc, drop, get_or, length, option_and_then, slice_get, take, refl, ap, subst, sym, ◌∙◌, arith}
 use Rattle.std.proofs.lemmas.List.{append-nil, take_more}
 use Rattle.std.proofs.Math.ListN.{drop_of_length-le}
-use Rattle.std.specs.List.{AllZip}
+use Rattle.std.specs.List.{AllByRecursion, AllZip}
 use Rattle.ev_terms.specs.declared.types.Tys.{Tys, Empty}
 use Rattle.ev_terms.specs.declared.types.Tys.{Empty, More}
 use Rattle.ev_terms.specs.Types.{more, type_list}
 use Rattle.ev_terms.specs.Term.{Term}
 use Rattle.ev_typing.specs.declared.typing.Sequent.{Sequent}
+use Rattle.ev_typing.specs.BaseSequents.{IsBaseSequent}
 use Rattle.ev_kernel.specs.Derivable.{Derivable}
 use Rattle.theory.specs.declared.steps.Step.{Step}
 use Rattle.theory.specs.declared.steps.Outcome.{Outcome}
@@ -18,7 +19,7 @@ use Rattle.theory.specs.declared.theorems.Theorem.{Theorem}
 use Rattle.theory.specs.declared.script.StoredProof.{StoredProof}
 use Rattle.theory.specs.declared.script.Theory.{Theory}
 use Rattle.theory.specs.Steps.{Replays}
-use Rattle.theory.specs.Reports.{closed, kept_steps, stored_steps, IsIndexOf, status_of, IsStatus, HasStatus, IsJustified, IsTheoryReport, theory_line, theorem_lines}
+use Rattle.theory.specs.Reports.{closed, kept_steps, stored_steps, IsIndexOf, status_of, IsStatus, HasStatus, HasPredicates, IsJustified, IsTheoryReport, theory_line, theorem_lines}
 use Rattle.theory.proofs.StepLaws.{proved_derivable}
 
 -- A printed `proved` is a derivation.
@@ -27,19 +28,20 @@ complete_if_proved Complete e = refl
 complete_if_proved (Partial k) e = cc
 complete_if_proved (Broken n) e = cc
 
-justified_with : (stored : Option (List Step)) (P : Term) (st : Status) → IsStatus stored P st → st ≡ Proved → Derivable [] (closed P)
-justified_with None P st h e = absurd (let f = sym e ∙ h in cc)
-justified_with (Some steps) P st (o, r, h) e = proved_derivable [] (closed P) steps (subst (Replays [] (closed P) steps) (complete_if_proved o (sym e ∙ h)) r)
+justified_with : (stored : Option (List Step)) (P : Term) (st : Status) → IsBaseSequent [] (closed P) → IsStatus stored P st → st ≡ Proved → Derivable [] (closed P)
+justified_with None P st b h e = absurd (let f = sym e ∙ h in cc)
+justified_with (Some steps) P st b (o, r, h) e = proved_derivable [] (closed P) steps b (subst (Replays [] (closed P) steps) (complete_if_proved o (sym e ∙ h)) r)
 
-justify : (proofs : List StoredProof) (theory : List ℕ) (ts : List Theorem) (sts : List Status) → AllZip (HasStatus proofs theory) ts sts → AllZip IsJustified ts sts
-justify proofs theory [] [] h = tt
-justify proofs theory (t ∷ ts) [] h = h
-justify proofs theory [] (st ∷ sts) h = h
-justify proofs theory (t ∷ ts) (st ∷ sts) h = (justified_with (stored_steps proofs theory t.label) t.goal st h.0, justify proofs theory ts sts h.1)
+justify : (proofs : List StoredProof) (theory : List ℕ) (ts : List Theorem) (sts : List Status) → AllByRecursion (λ (t : Theorem). IsBaseSequent [] (closed t.goal)) ts
+    → AllZip (HasStatus proofs theory) ts sts → AllZip IsJustified ts sts
+justify proofs theory [] [] b h = tt
+justify proofs theory (t ∷ ts) [] b h = h
+justify proofs theory [] (st ∷ sts) b h = h
+justify proofs theory (t ∷ ts) (st ∷ sts) b h = (justified_with (stored_steps proofs theory t.label) t.goal st b.0 h.0, justify proofs theory ts sts b.1 h.1)
 
-pub report_is : (t : Theory) (proofs : List StoredProof) (sts : List Status) (text : List ℕ) → AllZip (HasStatus proofs t.name) t.theorems sts → text ≡ theory_line t.name ++ theorem_lines t.name t.theorems sts
+pub report_is : (t : Theory) (proofs : List StoredProof) (sts : List Status) (text : List ℕ) → HasPredicates (Some t) → AllZip (HasStatus proofs t.name) t.theorems sts → text ≡ theory_line t.name ++ theorem_lines t.name t.theorems sts
     → IsTheoryReport t proofs text
-report_is t proofs sts text h e = record { statuses = sts; are = h; written = e; justified = justify proofs t.name t.theorems sts h }
+report_is t proofs sts text b h e = record { statuses = sts; are = h; written = e; justified = justify proofs t.name t.theorems sts b h }
 
 pub as_many : {A B : Type 0} (R : A → B → Type 0) (xs : List A) (ys : List B) → AllZip R xs ys → length xs ≡ length ys
 as_many R [] [] h = refl

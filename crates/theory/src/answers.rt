@@ -85,6 +85,7 @@ impl Answer {
 }
 
 /// The report of a script that some bytes are.
+#[tactic(auto, using(crate::proofs::TypedLaws::script_base))]
 fn report_of<L: Ledger>(
     alloc: Global,
     bytes: &[u8],

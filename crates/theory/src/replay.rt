@@ -6,9 +6,9 @@ ghost use Rattle.ev_kernel.specs.Row.{Row};
 ghost use Rattle.theory.specs.Steps.{ReadsUp, Advances, Applies, Replays, depth_limit, outcome_with, size_limit};
 
 use crate::steps::{Applied, Outcome, Step};
-use ev_kernel::{BaseRule, infers};
+use ev_kernel::{BaseRule, concludes};
 use ev_outside::Steps as Counter;
-use ev_terms::{NoMemory, Nums, Tree, TryCopy};
+use ev_terms::{NoMemory, Tree, TryCopy};
 use ev_typing::{Connective, Env, Sequent, Sequents, joined_parts, sequent_extent};
 use std::alloc::Global;
 use std::sync::ledger::Ledger;
@@ -42,9 +42,7 @@ fn assuming(alloc: Global, sequent: &Sequent, hyp: &Tree, goal: &Tree) -> Result
 fn closes(alloc: Global, env: &Env, goal: &Sequent, rule: BaseRule) -> Result<bool, NoMemory>
     ensures { IfOk result (λ yes. IsTrue yes ↔ Row env.now [] rule goal.now) }
 {
-    let earlier = Sequents::new(alloc);
-    let premises = Nums::new(alloc);
-    infers(alloc, env, &earlier, &premises, &rule, goal)
+    concludes(alloc, env, &rule, goal)
 }
 
 /// No subgoals, where the goal follows by the rule from no premises.

@@ -68,6 +68,17 @@ fn each_status_is_printed(rt: HostRuntime) -> Result<(), Fail> {
 }
 
 #[test]
+fn every_connective_is_read(rt: HostRuntime) -> Result<(), Fail> {
+    let script =
+        b"PUT a\nTHEOREM i: not (true or false) => not (true or false)\nTHEOREM e: true & not not true <=> false\nEND\nPROOF a/i/THM\nimpi\nhyp\nEND\nPROOF a/e/THM\nopen\nEND\n";
+    let report = b"theory a present ok\na/i/THM proved\na/e/THM partial 1\n";
+    let mut ends = make_ends(rt.alloc(), script, &[], &[])?;
+    assert_eq!(rt; check(rt.alloc(), &mut ends)?, Exit::Ok);
+    assert_eq!(rt; ends.sink.bytes(), report.as_slice());
+    Ok(())
+}
+
+#[test]
 fn the_last_proof_counts_and_an_empty_one_takes_away(rt: HostRuntime) -> Result<(), Fail> {
     let script =
         b"PUT a\nTHEOREM t: true\nTHEOREM u: true\nEND\nPROOF a/t/THM\nhyp\nEND\nPROOF a/t/THM\ntruei\nEND\nPROOF a/u/THM\ntruei\nEND\nPROOF a/u/THM\nEND\nPROOF b/x/THM\nhyp\nEND\n";
@@ -116,5 +127,21 @@ fn other_words_are_told_the_usage(rt: HostRuntime) -> Result<(), Fail> {
     let exit = run_counted::<Brand>(rt.alloc(), &words, &mut ends, Blank::new(1));
     assert_eq!(rt; exit, Exit::Usage);
     assert_eq!(rt; ends.sink.bytes(), b"usage\n".as_slice());
+    Ok(())
+}
+
+#[test]
+fn an_input_has_a_greatest_length(rt: HostRuntime) -> Result<(), Fail> {
+    let mut blanks = Vec::new(rt.alloc());
+    for _ in 0..16_777_216 {
+        blanks.push(b' ')?;
+    }
+    let mut ends = make_ends(rt.alloc(), blanks.as_slice(), &[], &[])?;
+    assert_eq!(rt; check(rt.alloc(), &mut ends)?, Exit::Ok);
+    assert_eq!(rt; ends.sink.bytes(), b"".as_slice());
+    blanks.push(b' ')?;
+    let mut longer = make_ends(rt.alloc(), blanks.as_slice(), &[], &[])?;
+    assert_eq!(rt; check(rt.alloc(), &mut longer)?, Exit::TooLong);
+    assert_eq!(rt; longer.sink.bytes(), b"too-long\n".as_slice());
     Ok(())
 }

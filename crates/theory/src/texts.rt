@@ -1,5 +1,5 @@
 ghost use Rattle.std.specs.Prelude.{◌≡◌, ◌++◌, List, IfOk, OnOk, decimal, length};
-ghost use Rattle.theory.specs.Reports.{status_text, theory_line, theorem_line, theorem_lines, IsReportOf};
+ghost use Rattle.theory.specs.Reports.{status_text, theory_line, theorem_line, theorem_lines, HasPredicates, IsReportOf};
 
 use crate::reports::{Status, statuses};
 use crate::script::{Script, Theory};
@@ -89,6 +89,7 @@ pub fn report<L: Ledger>(
     script: &Script,
     counter: &mut Counter<L>,
 ) -> Result<Vec<u8>, NoMemory>
+    requires { HasPredicates script.now.theory }
     ensures { IfOk result (λ text. IsReportOf script.now.theory script.now.proofs text.items) }
 {
     let mut text = Vec::new(alloc);
