@@ -84,7 +84,7 @@ leads_on text marks rest m after l ne e = record {
   where
     same : (m' : Mark) (after' : List ℕ) → mark_front (skip_blanks rest) ≡ Some (m', after') → (m ≡ m') × (after ≡ after')
     same m' after' f =
-        let g : Some (m, after) ≡ Some (m', after') = e ∙ ap mark_front (sym l.skipped) ∙ f in
+        let g : ◌≡◌ {A = Option Front} (Some (m, after)) (Some (m', after')) = e ∙ ap mark_front (sym l.skipped) ∙ f in
         let p : ◌≡◌ {A = Front} (m, after) (m', after') = cc in
         (ap (λ (q : Front). q.0) p, ap (λ (q : Front). q.1) p)
 

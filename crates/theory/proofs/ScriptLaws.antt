@@ -189,7 +189,7 @@ no_unit lines done rest s e full ps h = at (s.only ps h)
   where
     at : (more : List StoredProof) × (ps ≡ done ++ more) × AreProofs rest more → ⊥
     at ([], f, k) = full k
-    at (q ∷ more, f, (v, behind, g, is, k)) = let i : Some (v, behind) ≡ None = sym g ∙ e in cc
+    at (q ∷ more, f, (v, behind, g, is, k)) = let i : ◌≡◌ {A = Option UnitFront} (Some (v, behind)) None = sym g ∙ e in cc
 
 pub no_proof_here : (lines : List (List ℕ)) (done : List StoredProof) (rest after : List (List ℕ)) (u : ScriptUnit) → ProofsSoFar lines done rest → unit_front rest ≡ Some (u, after)
     → ((p : StoredProof) → IsProof u p → ⊥) → (list_all are_blanks rest ≡ true → ⊥) → (ps : List StoredProof) → AreProofs lines ps → ⊥
@@ -273,7 +273,7 @@ nothing_put lines puts none s h = at s.theory h
 
 -- what the first unit tells
 pub no_unit_puts_nothing : (lines : List (List ℕ)) → unit_front lines ≡ None → PutsNothing lines
-no_unit_puts_nothing lines e u after name f = let g : None ≡ Some (u, after) = sym e ∙ f in absurd (cc)
+no_unit_puts_nothing lines e u after name f = let g : ◌≡◌ {A = Option UnitFront} None (Some (u, after)) = sym e ∙ f in absurd (cc)
 
 pub proof_puts_nothing : (lines : List (Bor (List ℕ))) (head : Head) (start end : ℕ) → IsUnitAt lines head start end → ((name : List ℕ) → head ≡ Put name → ⊥) → PutsNothing (texts lines)
 proof_puts_nothing lines head start end u n v after name f g =
