@@ -40,6 +40,10 @@ AreEquated S _ _ _ = ⊥
 abbrev pub at_children : Sequent → Sym → Tys → Sequent
 at_children S s As = widened S (take (binds s) (type_list As))
 
+-- two terms with one symbol at the same types, whose children the premises equate
+abbrev pub AreCongruent : Sequent → Term → Term → List Sequent → Type 0
+AreCongruent S t u ps = (s : Sym) × (As : Tys) × (cs ds : Terms) × (t ≡ node s As cs) × (u ≡ node s As ds) × AreEquated (at_children S s As) (term_list cs) (term_list ds) ps
+
 -- The sequent S follows from the premises by the rule. `S ⊢ P` is S with the goal P, `S ▹ P` is S with the hypothesis P added.
 abbrev pub Row : Env → List Sequent → BaseRule → Sequent → Type 0
 Row env ps Hyp S = (ps ≡ []) × Contains S.hyps S.goal
@@ -69,7 +73,6 @@ Row env ps Em S = (P : Term) × Fits S ps (disj P (neg P)) []
 Row env ps Refl S = (A : Ty) × (t : Term) × Fits S ps (equation A t t) []
 Row env ps Symmetry S = (A : Ty) × (s t : Term) × Fits S ps (equation A t s) ((S ⊢ equation A s t) ∷ [])
 Row env ps Trans S = (A : Ty) × (s t u : Term) × Fits S ps (equation A s u) ((S ⊢ equation A s t) ∷ (S ⊢ equation A t u) ∷ [])
-Row env ps Cong S =
-    (A : Ty) × (s : Sym) × (As : Tys) × (cs ds : Terms) × (S.goal ≡ equation A (node s As cs) (node s As ds)) × AreEquated (at_children S s As) (term_list cs) (term_list ds) ps
+Row env ps Cong S = (A : Ty) × (t u : Term) × (S.goal ≡ equation A t u) × AreCongruent S t u ps
 Row env ps SetMem S = (A : Ty) × (t Q : Term) × Fits S ps (iff (mem A t (such_that A Q)) (subst Q (t ∷ []))) []
 Row env ps BoolMem S = (P : Term) × Fits S ps (iff (eq Bool (bool_of P) bool_true) P) []

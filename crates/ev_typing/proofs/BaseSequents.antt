@@ -164,26 +164,26 @@ all_plain env (t ∷ ts) h = (h.0, all_plain env ts h.1)
 pub ruleset lists = (plain_all, all_plain)
 
 -- Larger environments.
+indirect_over : (e f : Env) → IsPartOf e f → HasDistinctNames f → (s : Sym) (P : Profile → Type 0) → IsSomeAnd (profile e s) P → IsFalse (is_direct e s) → IsFalse (is_direct f s)
+indirect_over e f k w (Base j) P h p = p
+indirect_over e f k w (User n) P h p = by (find_symbol e n) refl h
+  where
+    by : (o : Option Symbol) → find_symbol e n ≡ o → IsSomeAnd (option_map symbol_profile o) P → IsFalse (is_direct f (User n))
+    by None g x = absurd x
+    by (Some y) g x = ap is_direct_symbol (found_part symbols symbols_named e f n y w k g) ∙ sym (ap is_direct_symbol g) ∙ p
+
+some_gives : {X R : Type 0} {P : X → Type 0} (o : Option X) → ((x : X) → P x → R) → IsSomeAnd o P → R
+some_gives None k h = absurd h
+some_gives (Some x) k h = k x h
+
 mutual
   plain_over : (e f : Env) → IsPartOf e f → HasDistinctNames f → (C : List Ty) (t : Term) (A : Ty) → Typed e C t A → IsPlain e t → IsPlain f t
   plain_over e f k w C (var i) A h p = tt
   plain_over e f k w C (lit n) A h p = tt
-  plain_over e f k w C (node s As ts) A h p = (indirect_over e f k w C s As ts A h p.0, children_over e f k w C s As ts A (profile e s) h p.1)
-
-  indirect_over : (e f : Env) → IsPartOf e f → HasDistinctNames f → (C : List Ty) (s : Sym) (As : Tys) (ts : Terms) (A : Ty) →
-      Typed e C (node s As ts) A → IsFalse (is_direct e s) → IsFalse (is_direct f s)
-  indirect_over e f k w C (Base j) As ts A h p = p
-  indirect_over e f k w C (User n) As ts A h p = by (find_symbol e n) refl h
-    where
-      by : (o : Option Symbol) → find_symbol e n ≡ o →
-          IsSomeAnd (option_map symbol_profile o) (λ q. IsTypedNode e As q A (AreTyped e (inside C (User n) As) ts (map (type_inst (type_at As)) q.args))) → IsFalse (is_direct f (User n))
-      by None g x = absurd x
-      by (Some y) g x = ap is_direct_symbol (found_part symbols symbols_named e f n y w k g) ∙ sym (ap is_direct_symbol g) ∙ p
-
-  children_over : (e f : Env) → IsPartOf e f → HasDistinctNames f → (C : List Ty) (s : Sym) (As : Tys) (ts : Terms) (A : Ty) (o : Option Profile) →
-      IsSomeAnd o (λ p. IsTypedNode e As p A (AreTyped e (inside C s As) ts (map (type_inst (type_at As)) p.args))) → ArePlain e ts → ArePlain f ts
-  children_over e f k w C s As ts A None h p = absurd h
-  children_over e f k w C s As ts A (Some q) h p = all_plain_over e f k w (inside C s As) ts (map (type_inst (type_at As)) q.args) h.children p
+  plain_over e f k w C (node s As ts) A h p = (
+    indirect_over e f k w s (λ q. IsTypedNode e As q A (AreTyped e (inside C s As) ts (map (type_inst (type_at As)) q.args))) h p.0,
+    some_gives (profile e s) (λ q g. all_plain_over e f k w (inside C s As) ts (map (type_inst (type_at As)) q.args) g.children p.1) h,
+  )
 
   all_plain_over : (e f : Env) → IsPartOf e f → HasDistinctNames f → (C : List Ty) (ts : Terms) (As : List Ty) → AreTyped e C ts As → ArePlain e ts → ArePlain f ts
   all_plain_over e f k w C nil As h p = tt

@@ -1,12 +1,14 @@
 -- What a term is, from its symbol, its type arguments and its children.
 use Rattle.std.proofs.Common.{◌≡◌, ◌≢◌, ℕ, List, [], ◌∷◌, Option, Some, None, refl, ap, sym, ◌∙◌}
+use Rattle.std.specs.Prelude.{IfNone}
 use Rattle.ev_terms.specs.declared.types.Ty.{Ty, Int, Bool, Prop, Param, Data}
 use Rattle.ev_terms.specs.declared.types.Tys.{Tys, Empty}
 use Rattle.ev_terms.specs.declared.types.Tys.TheVariants.{More}
 use Rattle.ev_terms.specs.declared.types.Sym.{Sym}
 use Rattle.ev_terms.specs.declared.types.Sym.TheVariants.{Base, User}
-use Rattle.ev_terms.specs.Types.{pow, prod, more, More-more}
+use Rattle.ev_terms.specs.Types.{pow, prod, more, type_list, More-more}
 use Rattle.ev_terms.specs.Term.{Term, Terms, var, lit, node, nil, cons, terms, term_list, sym_of, types_of, children, terms-term_list, term_list-terms}
+use Rattle.ev_terms.proofs.TypeSteps.{type_list-More}
 use Rattle.ev_typing.specs.Base.{at_type}
 use Rattle.ev_typing.specs.Forms.{equation, iff, eq}
 use Rattle.ev_typing.specs.Binders.{equated}
@@ -34,9 +36,8 @@ More-one A = More-more A Empty
 
 pub more_than_one : (A B C : Ty) (rest : Tys) → More A (More B rest) ≢ at_type C
 more_than_one A B C rest e =
-    let p = More-more A (More B rest) in
-    let q = More-more B rest in
-    let r : more A (more B rest) ≡ more C Empty = sym (p ∙ ap (λ x. more A x) q) ∙ e in cc
+    let p : type_list (More A (More B rest)) ≡ A ∷ B ∷ type_list rest = type_list-More A (More B rest) ∙ ap (λ Bs. A ∷ Bs) (type_list-More B rest) in
+    let q : A ∷ B ∷ type_list rest ≡ C ∷ [] = sym p ∙ ap type_list e in cc
 
 pub ruleset one_type = (More-one, more_than_one, More-more)
 
@@ -100,9 +101,25 @@ no_sides u p q (prod A B) s t = q (prod A B) s t (λ e. cc)
 no_sides u p q (Data n Bs) s t = q (Data n Bs) s t (λ e. cc)
 
 pub eq_prop : (u l r : Term) → u ≡ eq Prop l r → (A : Ty) (s t : Term) → A ≢ Prop → u ≢ equation A s t
-eq_prop u l r e A s t ne f = ne (let g : eq Prop l r ≡ eq A s t = sym e ∙ f ∙ equation_eq A s t ne in cc)
+eq_prop u l r e A s t ne f = ne (let g : eq Prop l r ≡ eq A s t = sym e ∙ f ∙ equation_eq A s t ne in let h : at_type Prop ≡ at_type A = cc in sym (ap equated h))
 
 pub no_eq : (u : Term) → ((A : Ty) (s t : Term) → u ≢ eq A s t) → (A : Ty) (s t : Term) → A ≢ Prop → u ≢ equation A s t
 no_eq u h A s t ne f = h A s t (f ∙ equation_eq A s t ne)
 
 pub ruleset sides = (iff_sides, eq_sides, no_sides, eq_prop, no_eq)
+
+pub if_none : {T P : Type 0} (o : Option T) → o ≡ None → P → IfNone o P
+if_none None e p = p
+if_none (Some x) e p = cc
+
+pub not_bound : (u : Term) (row : ℕ) (As : Tys) (ts : List Term) (make : Ty → Term → Term) → u ≡ node (Base row) As (terms ts)
+    → ((A : Ty) (P : Term) → node (Base row) (at_type A) (cons P nil) ≡ make A P) → ((P : Term) → ts ≢ P ∷ []) → (A : Ty) (P : Term) → u ≢ make A P
+not_bound u row As ts make e is none A P f =
+    let g : node (Base row) As (terms ts) ≡ node (Base row) (at_type A) (cons P nil) = sym e ∙ f ∙ sym (is A P) in
+    none P (sym (term_list-terms ts) ∙ ap term_list (let h : terms ts ≡ cons P nil = cc in h))
+
+pub not_related : (u : Term) (row : ℕ) (As : Tys) (ts : List Term) (make : Ty → Term → Term → Term) → u ≡ node (Base row) As (terms ts)
+    → ((A : Ty) (s t : Term) → node (Base row) (at_type A) (cons s (cons t nil)) ≡ make A s t) → ((s t : Term) → ts ≢ s ∷ t ∷ []) → (A : Ty) (s t : Term) → u ≢ make A s t
+not_related u row As ts make e is none A s t f =
+    let g : node (Base row) As (terms ts) ≡ node (Base row) (at_type A) (cons s (cons t nil)) = sym e ∙ f ∙ sym (is A s t) in
+    none s t (sym (term_list-terms ts) ∙ ap term_list (let h : terms ts ≡ cons s (cons t nil) = cc in h))

@@ -1,17 +1,20 @@
 //! Well-typed sequents, and those without direct operators. Source: Métayer and Voisin, The Event-B Mathematical Language; Butler and
 //! Maamria, Practical Theory Extension in Event-B.
-ghost use Rattle.std.specs.Prelude.{◌≡◌, ◌↔◌, IsTrue, IfOk, OnOk};
+ghost use Rattle.std.specs.Prelude.{◌≡◌, ◌↔◌, map, IsTrue, IfOk, OnOk};
 ghost use Rattle.std.specs.List.{AllByRecursion};
+ghost use Rattle.ev_terms.specs.Types.{type_list};
 ghost use Rattle.ev_terms.specs.Term.{terms};
+ghost use Rattle.ev_terms.specs.Subst.{type_inst, type_at};
 ghost use Rattle.ev_terms.specs.declared.types.Ty.{Prop};
-ghost use Rattle.ev_typing.specs.Typing.{Typed, IsPredicate, IsSequent};
+ghost use Rattle.ev_typing.specs.Typing.{Typed, AreTyped, IsPredicate, IsSequent};
 ghost use Rattle.ev_typing.specs.Occurs.{is_direct, IsPlain, ArePlain};
 ghost use Rattle.ev_typing.specs.BaseSequents.{is_direct_entry, IsBaseSequent, WholeKeepsBaseSequents};
 
-use crate::checking::{are_proper, fits, types_of};
+use crate::checking::{all_fit, are_proper, fits, types_of};
 use crate::environment::Env;
+use crate::instances::types_at;
 use crate::typing::{Entry, Sequent};
-use ev_terms::{NoMemory, Sym, Tree, Ty};
+use ev_terms::{NoMemory, Sym, Tree, Ty, Tys};
 use std::alloc::Global;
 
 /// Whether the symbol is a direct operator, in constant time.
@@ -69,6 +72,20 @@ fn are_plain(env: &Env, trees: &[Tree]) -> bool
     true
 }
 
+/// Whether the term is a predicate in the context of these variables.
+fn is_predicate(
+    alloc: Global,
+    env: &Env,
+    context: &mut Vec<Ty>,
+    tree: &Tree,
+) -> Result<bool, NoMemory>
+    ensures typed { IfOk result (λ b. IsTrue b ↔ Typed env.now context.old.items tree.now Prop) }
+    ensures kept { OnOk result (context.new.items ≡ context.old.items) }
+{
+    let prop = Ty::Prop;
+    fits(alloc, env, context, tree, &prop)
+}
+
 /// Whether each of the terms is a predicate in the context of these variables.
 #[tactic(auto, using(crate::proofs::BaseSequents::lists))]
 fn are_predicates(
@@ -80,9 +97,8 @@ fn are_predicates(
     ensures typed { IfOk result (λ b. IsTrue b ↔ AllByRecursion (IsPredicate env.now context.old.items) trees.now) }
     ensures kept { OnOk result (context.new.items ≡ context.old.items) }
 {
-    let prop = Ty::Prop;
     for tree in trees {
-        if !fits(alloc, env, context, tree, &prop)? {
+        if !is_predicate(alloc, env, context, tree)? {
             return Ok(false);
         }
     }
@@ -100,8 +116,7 @@ pub fn is_sequent(alloc: Global, env: &Env, sequent: &Sequent) -> Result<bool, N
     if !are_predicates(alloc, env, &mut variables, sequent.hyps.as_slice())? {
         return Ok(false);
     }
-    let prop = Ty::Prop;
-    fits(alloc, env, &mut variables, &sequent.goal, &prop)
+    is_predicate(alloc, env, &mut variables, &sequent.goal)
 }
 
 /// Whether the sequent is well typed and no direct operator occurs in it. Linear in the sequent.
@@ -119,3 +134,33 @@ pub fn is_base_sequent(alloc: Global, env: &Env, sequent: &Sequent) -> Result<bo
 pub fn wholes_keep_base_sequents()
     ensures { WholeKeepsBaseSequents }
 {}
+
+/// Whether the term has the type in the context.
+pub fn has_type(
+    alloc: Global,
+    env: &Env,
+    context: &Tys,
+    tree: &Tree,
+    ty: &Ty,
+) -> Result<bool, NoMemory>
+    ensures { IfOk result (λ b. IsTrue b ↔ Typed env.now (type_list context.now) tree.now ty.now) }
+{
+    let mut variables = types_of(alloc, context)?;
+    fits(alloc, env, &mut variables, tree, ty)
+}
+
+/// Whether the terms have these types in the context, one each, with types put for the parameters of the list.
+pub fn have_types_at(
+    alloc: Global,
+    env: &Env,
+    context: &Tys,
+    trees: &[Tree],
+    list: &Tys,
+    types: &Tys,
+) -> Result<bool, NoMemory>
+    ensures { IfOk result (λ b. IsTrue b ↔ AreTyped env.now (type_list context.now) (terms trees.now) (map (type_inst (type_at types.now)) (type_list list.now))) }
+{
+    let mut variables = types_of(alloc, context)?;
+    let expected = types_at(alloc, list, types)?;
+    all_fit(alloc, env, &mut variables, trees, expected.as_slice())
+}

@@ -185,7 +185,7 @@ fn fit_inside(
 
 #[cycle(type_in)]
 #[tactic(auto, using(crate::proofs::Checks::walk))]
-fn all_fit(
+pub(crate) fn all_fit(
     alloc: Global,
     env: &Env,
     context: &mut Vec<Ty>,

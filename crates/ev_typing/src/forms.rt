@@ -1,6 +1,6 @@
 //! Terms at base symbols with type arguments: quantifiers, the set former, equality, membership, truth values. Source: Métayer and
 //! Voisin, The Event-B Mathematical Language.
-ghost use Rattle.std.specs.Prelude.{◌≡◌, ◌≢◌, ◌↔◌, ◌×◌, ℕ, Some, [], ◌∷◌, IsTrue, IfOk, IfSome, IfNone};
+ghost use Rattle.std.specs.Prelude.{◌≡◌, ◌≢◌, ◌↔◌, ℕ, Some, [], ◌∷◌, IsTrue, IfOk, IfSome, IfNone};
 ghost use Rattle.ev_terms.specs.Term.{Term, Terms, node, nil, cons, terms, types_of};
 ghost use Rattle.ev_terms.specs.declared.types.Sym.{Sym};
 ghost use Rattle.ev_terms.specs.declared.types.Sym.TheVariants.{Base};
@@ -249,8 +249,16 @@ fn expressions_of(tree: &Tree) -> Option<(&Tree, &Tree)>
     ensures none { IfNone result ((A : Ty) (s t : Term) → A ≢ Prop → tree.now ≢ equation A s t) }
 {
     match related_parts(tree, Relation::Equal) {
-        Some((Ty::Prop, _, _)) => None,
-        Some((_, left, right)) => Some((left, right)),
+        Some((ty, left, right)) => if is_prop(ty) { None } else { Some((left, right)) },
         None => None,
+    }
+}
+
+fn is_prop(ty: &Ty) -> bool
+    ensures { IsTrue result ↔ (ty.now ≡ Prop) }
+{
+    match ty {
+        Ty::Prop => true,
+        _ => false,
     }
 }

@@ -14,7 +14,9 @@ mod tests;
 pub mod typing;
 pub mod typing_laws;
 
-pub use base_sequents::{is_base_sequent, is_plain, is_sequent, wholes_keep_base_sequents};
+pub use base_sequents::{
+    has_type, have_types_at, is_base_sequent, is_plain, is_sequent, wholes_keep_base_sequents,
+};
 pub use checking::{are_proper, is_proper, type_of};
 pub use connectives::{
     Connective, is_falsity, is_truth, joined_parts, make_falsity, make_joined, make_negation,
