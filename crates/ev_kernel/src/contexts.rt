@@ -2,6 +2,7 @@
 ghost use Rattle.std.specs.Prelude.{◌≡◌, ◌↔◌, [], ◌∷◌, ◌++◌, Contains, IsTrue, map};
 ghost use Rattle.std.specs.Option.{option_copied};
 ghost use Rattle.std.specs.List.{AllByRecursion};
+ghost use Rattle.ev_terms.specs.declared.types.Tys.{Empty};
 ghost use Rattle.ev_terms.specs.Types.{type_list};
 ghost use Rattle.ev_terms.specs.Subst.{shift};
 ghost use Rattle.ev_typing.specs.Forms.{types};
@@ -9,7 +10,7 @@ ghost use Rattle.ev_typing.specs.Sequents.{◌⊢◌, ◌▹◌};
 ghost use Rattle.ev_typing.specs.BaseSequents.{widened, under};
 ghost use Rattle.ev_kernel.specs.Contexts.{optional};
 
-use crate::instances::are_shifted;
+use crate::instances::{are_shifted, is_shift};
 use ev_terms::{Same, Tree, Ty, Tys, same, same_all};
 use ev_typing::Sequent;
 

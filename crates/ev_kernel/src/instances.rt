@@ -1,10 +1,10 @@
 //! Whether a term is a shift or a substitution of another, found by comparing them: nothing is built.
-ghost use Rattle.std.specs.Prelude.{◌≡◌, ◌≤◌, ◌<◌, ◌^◌, ◌↔◌, [], ◌∷◌, map, reverse, IsTrue};
-ghost use Rattle.ev_terms.specs.Term.{sym_of};
+ghost use Rattle.std.specs.Prelude.{◌≡◌, ◌≤◌, ◌<◌, ◌^◌, ◌↔◌, None, map, reverse, IsTrue};
+ghost use Rattle.ev_terms.specs.Term.{var, sym_of};
 ghost use Rattle.ev_terms.specs.Measures.{loose};
-ghost use Rattle.ev_terms.specs.Subst.{shift, inst, lifts, entry, subst, fill};
+ghost use Rattle.ev_terms.specs.Subst.{shift, inst, lifts, entry, fill};
 
-use ev_terms::{Same, Sym, Tree, Tys, binds, loose, same};
+use ev_terms::{Same, Tree, binds, loose, same};
 use ev_typing::node_parts;
 
 /// Whether the term is the other one with its variables from `from` on raised by `by`. Linear in the term.
@@ -22,7 +22,10 @@ pub(crate) fn is_shift(tree: &Tree, other: &Tree, from: u64, by: u64) -> bool
         Some((sym, types, children)) => match node_parts(tree) {
             None => false,
             Some((found, list, trees)) => {
-                if !found.same(sym) || !list.same(types) {
+                if !found.same(sym) {
+                    return false;
+                }
+                if !list.same(types) {
                     return false;
                 }
                 are_shifts(trees, children, from + u64::from(binds(sym)), by)
@@ -57,9 +60,12 @@ fn is_raised(tree: &Tree, other: &Tree, from: u64, by: u64) -> bool
     requires raised { from < loose other.now }
     ensures { IsTrue result ↔ (tree.now ≡ shift other.now from by) }
 {
-    match (tree.var(), other.var()) {
-        (Some(found), Some(i)) => u64::from(found) == u64::from(i) + by,
-        _ => false,
+    let Some(i) = other.var() else {
+        return false;
+    };
+    match tree.var() {
+        Some(found) => u64::from(found) == u64::from(i) + by,
+        None => false,
     }
 }
 
@@ -91,7 +97,10 @@ fn is_filled_under(tree: &Tree, pattern: &Tree, arguments: &[Tree], depth: u64) 
         Some((sym, types, children)) => match node_parts(tree) {
             None => false,
             Some((found, list, trees)) => {
-                if !found.same(sym) || !list.same(types) {
+                if !found.same(sym) {
+                    return false;
+                }
+                if !list.same(types) {
                     return false;
                 }
                 are_filled(trees, children, arguments, depth + u64::from(binds(sym)))
