@@ -73,7 +73,7 @@ pub(crate) fn by_transitivity(first: &Sequent, second: &Sequent, sequent: &Seque
 }
 
 /// The type of the variable that the symbol binds in its children, where it binds one.
-fn bound_type(sym: &Sym, types: &Tys) -> Option<&Ty>
+fn bound_type<'a>(sym: &Sym, types: &'a Tys) -> Option<&'a Ty>
     ensures { optional (option_copied result) ≡ take (binds sym.now) (type_list types.now) }
 {
     if binds(sym) == 0 { None } else { types.get(0) }

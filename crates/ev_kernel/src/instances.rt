@@ -9,7 +9,7 @@ use ev_typing::node_parts;
 
 /// Whether the term is the other one with its variables from `from` on raised by `by`. Linear in the term.
 #[cycle(is_shift)]
-#[tactic(auto, using(crate::proofs::Instances::walk))]
+#[tactic(auto, using(crate::proofs::Comparing::walk))]
 pub(crate) fn is_shift(tree: &Tree, other: &Tree, from: u64, by: u64) -> bool
     requires { by ≤ 2 ^ 32 }
     ensures { IsTrue result ↔ (tree.now ≡ shift other.now from by) }
@@ -36,7 +36,7 @@ pub(crate) fn is_shift(tree: &Tree, other: &Tree, from: u64, by: u64) -> bool
 
 /// Whether the terms are the other ones, each raised so.
 #[cycle(is_shift)]
-#[tactic(auto, using(crate::proofs::Instances::walk))]
+#[tactic(auto, using(crate::proofs::Comparing::walk))]
 fn are_shifts(trees: &[Tree], others: &[Tree], from: u64, by: u64) -> bool
     requires { by ≤ 2 ^ 32 }
     ensures { IsTrue result ↔ (trees.now ≡ map (λ t. shift t from by) others.now) }
@@ -53,7 +53,7 @@ fn are_shifts(trees: &[Tree], others: &[Tree], from: u64, by: u64) -> bool
 }
 
 /// Whether the term is the variable that the other one is, raised.
-#[tactic(auto, using(crate::proofs::Instances::leaves))]
+#[tactic(auto, using(crate::proofs::Comparing::leaves))]
 fn is_raised(tree: &Tree, other: &Tree, from: u64, by: u64) -> bool
     requires small { by ≤ 2 ^ 32 }
     requires leaf { sym_of other.now ≡ None }
@@ -85,7 +85,7 @@ pub(crate) fn is_filled(tree: &Tree, pattern: &Tree, arguments: &[Tree]) -> bool
 
 /// The same under so many binders, whose variables stay.
 #[cycle(is_filled)]
-#[tactic(auto, using(crate::proofs::Instances::walk))]
+#[tactic(auto, using(crate::proofs::Comparing::walk))]
 fn is_filled_under(tree: &Tree, pattern: &Tree, arguments: &[Tree], depth: u64) -> bool
     ensures { IsTrue result ↔ (tree.now ≡ inst (lifts depth (entry (reverse arguments.now))) pattern.now) }
 {
@@ -110,7 +110,7 @@ fn is_filled_under(tree: &Tree, pattern: &Tree, arguments: &[Tree], depth: u64) 
 }
 
 #[cycle(is_filled)]
-#[tactic(auto, using(crate::proofs::Instances::walk))]
+#[tactic(auto, using(crate::proofs::Comparing::walk))]
 fn are_filled(trees: &[Tree], patterns: &[Tree], arguments: &[Tree], depth: u64) -> bool
     ensures { IsTrue result ↔ (trees.now ≡ map (inst (lifts depth (entry (reverse arguments.now)))) patterns.now) }
 {
@@ -126,7 +126,7 @@ fn are_filled(trees: &[Tree], patterns: &[Tree], arguments: &[Tree], depth: u64)
 }
 
 /// Whether the term is what stands for the variable that the pattern is.
-#[tactic(auto, using(crate::proofs::Instances::leaves))]
+#[tactic(auto, using(crate::proofs::Comparing::leaves))]
 fn is_put(tree: &Tree, pattern: &Tree, arguments: &[Tree], depth: u64) -> bool
     requires leaf { sym_of pattern.now ≡ None }
     requires outer { depth < loose pattern.now }
