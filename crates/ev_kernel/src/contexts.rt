@@ -102,7 +102,7 @@ pub(crate) fn stands_under(sequent: &Sequent, other: &Sequent, ty: &Ty) -> bool
 
 /// The same where there may be no further variable.
 pub(crate) fn stands_inside(sequent: &Sequent, other: &Sequent, ty: Option<&Ty>) -> bool
-    ensures { IsTrue result ↔ (sequent.now ≡ (widened other.now (optional (option_copied ty)) ⊢ sequent.now.goal)) }
+    ensures { IsTrue result ↔ (sequent.now ≡ (widened other.now (optional (option_copied ty.entry)) ⊢ sequent.now.goal)) }
 {
     match ty {
         Some(ty) => stands_under(sequent, other, ty),

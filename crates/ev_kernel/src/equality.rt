@@ -34,26 +34,30 @@ pub(crate) fn by_reflexivity(sequent: &Sequent) -> bool
     }
 }
 
+/// Whether the term is an equation at these type arguments, between these two.
+fn is_equation(tree: &Tree, types: &Tys, left: &Tree, right: &Tree) -> bool
+    ensures { IsTrue result ↔ ((tree.now ≡ equation (equated types.now) left.now right.now) × (types_of tree.now ≡ Some types.now)) }
+{
+    let Some((found, s, t)) = equation_parts(tree) else {
+        return false;
+    };
+    if !found.same(types) {
+        return false;
+    }
+    if !same(s, left) {
+        return false;
+    }
+    same(t, right)
+}
+
 pub(crate) fn by_symmetry(premise: &Sequent, sequent: &Sequent) -> bool
     ensures { IsTrue result ↔ Row [] (premise.now ∷ []) Symmetry sequent.now }
 {
     if !stands_beside(premise, sequent) {
         return false;
     }
-    match (equation_parts(&premise.goal), equation_parts(&sequent.goal)) {
-        (Some((types, s, t)), Some((others, left, right))) => types.same(others)
-            && same(s, right)
-            && same(t, left),
-        _ => false,
-    }
-}
-
-/// Whether the term is an equation of the type between these two.
-fn is_equation(tree: &Tree, types: &Tys, left: &Tree, right: &Tree) -> bool
-    ensures { IsTrue result ↔ ((tree.now ≡ equation (equated types.now) left.now right.now) × (types_of tree.now ≡ Some types.now)) }
-{
-    match equation_parts(tree) {
-        Some((found, s, t)) => found.same(types) && same(s, left) && same(t, right),
+    match equation_parts(&premise.goal) {
+        Some((types, left, right)) => is_equation(&sequent.goal, types, right, left),
         None => false,
     }
 }
@@ -61,15 +65,25 @@ fn is_equation(tree: &Tree, types: &Tys, left: &Tree, right: &Tree) -> bool
 pub(crate) fn by_transitivity(first: &Sequent, second: &Sequent, sequent: &Sequent) -> bool
     ensures { IsTrue result ↔ Row [] (first.now ∷ second.now ∷ []) Trans sequent.now }
 {
-    if !stands_beside(first, sequent) || !stands_beside(second, sequent) {
+    if !stands_beside(first, sequent) {
         return false;
     }
-    match (equation_parts(&first.goal), equation_parts(&second.goal)) {
-        (Some((types, s, middle)), Some((others, t, u))) => types.same(others)
-            && same(middle, t)
-            && is_equation(&sequent.goal, types, s, u),
-        _ => false,
+    if !stands_beside(second, sequent) {
+        return false;
     }
+    let Some((types, left, middle)) = equation_parts(&first.goal) else {
+        return false;
+    };
+    let Some((others, other, right)) = equation_parts(&second.goal) else {
+        return false;
+    };
+    if !types.same(others) {
+        return false;
+    }
+    if !same(middle, other) {
+        return false;
+    }
+    is_equation(&sequent.goal, types, left, right)
 }
 
 /// The type of the variable that the symbol binds in its children, where it binds one.
@@ -81,7 +95,7 @@ fn bound_type<'a>(sym: &Sym, types: &'a Tys) -> Option<&'a Ty>
 
 /// Whether the premise equates the two terms in the context of the symbol's children.
 fn equates(premise: &Sequent, sequent: &Sequent, bound: Option<&Ty>, left: &Tree, right: &Tree) -> bool
-    ensures { IsTrue result ↔ ((A : Ty) × (premise.now ≡ (widened sequent.now (optional (option_copied bound)) ⊢ equation A left.now right.now))) }
+    ensures { IsTrue result ↔ ((A : Ty) × (premise.now ≡ (widened sequent.now (optional (option_copied bound.entry)) ⊢ equation A left.now right.now))) }
 {
     if !stands_inside(premise, sequent, bound) {
         return false;
@@ -103,7 +117,7 @@ fn are_equated(
     rights: &[Tree],
 ) -> bool
     requires { AllByRecursion (λ n. (1 ≤ n) × (n ≤ length earlier.now)) premises.now }
-    ensures { IsTrue result ↔ AreEquated (widened sequent.now (optional (option_copied bound))) lefts.now rights.now (named earlier.now premises.now) }
+    ensures { IsTrue result ↔ AreEquated (widened sequent.now (optional (option_copied bound.entry))) lefts.now rights.now (named earlier.now premises.now) }
 {
     if lefts.len() != premises.len() || rights.len() != premises.len() {
         return false;
