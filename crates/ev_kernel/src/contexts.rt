@@ -76,9 +76,18 @@ fn extends(longer: &Tys, shorter: &Tys, last: &Ty) -> bool
     ensures { IsTrue result ↔ (longer.now ≡ types (type_list shorter.now ++ last.now ∷ [])) }
 {
     match (longer, shorter) {
-        (Tys::More(a, rest), Tys::More(b, others)) => a.get().same(b.get())
-            && extends(rest.get(), others.get(), last),
-        (Tys::More(a, rest), Tys::Empty) => a.get().same(last) && is_empty(rest.get()),
+        (Tys::More(a, rest), Tys::More(b, others)) => {
+            if !a.get().same(b.get()) {
+                return false;
+            }
+            extends(rest.get(), others.get(), last)
+        }
+        (Tys::More(a, rest), Tys::Empty) => {
+            if !a.get().same(last) {
+                return false;
+            }
+            is_empty(rest.get())
+        }
         (Tys::Empty, _) => false,
     }
 }

@@ -90,7 +90,11 @@ pub(crate) fn by_transitivity(first: &Sequent, second: &Sequent, sequent: &Seque
 fn bound_type<'a>(sym: &Sym, types: &'a Tys) -> Option<&'a Ty>
     ensures { optional (option_copied result) ≡ take (binds sym.now) (type_list types.now) }
 {
-    if binds(sym) == 0 { None } else { types.get(0) }
+    if binds(sym) == 0 {
+        None
+    } else {
+        types.get(0)
+    }
 }
 
 /// Whether the premise equates the two terms in the context of the symbol's children.
@@ -170,7 +174,12 @@ fn is_member_form(membership: &Tree, unfolded: &Tree) -> bool
         return false;
     };
     match bound_parts(set, Binder::SetOf) {
-        Some((other, predicate)) => ty.same(other) && is_with(unfolded, predicate, term),
+        Some((other, predicate)) => {
+            if !ty.same(other) {
+                return false;
+            }
+            is_with(unfolded, predicate, term)
+        }
         None => false,
     }
 }
@@ -191,7 +200,10 @@ fn is_truth_of(tree: &Tree, predicate: &Tree) -> bool
     let Some((ty, left, right)) = related_parts(tree, Relation::Equal) else {
         return false;
     };
-    if !is_bool(ty) || !is_true_value(right) {
+    if !is_bool(ty) {
+        return false;
+    }
+    if !is_true_value(right) {
         return false;
     }
     match bool_part(left) {
