@@ -123,9 +123,13 @@ pub(crate) fn stands_inside(sequent: &Sequent, other: &Sequent, ty: Option<&Ty>)
 pub(crate) fn assumes_under(sequent: &Sequent, other: &Sequent, ty: &Ty, hyp: &Tree) -> bool
     ensures { IsTrue result ↔ (sequent.now ≡ (under other.now ty.now ▹ hyp.now)) }
 {
-    extends(&sequent.context, &other.context, ty)
-        && are_shifted_and(sequent.hyps.as_slice(), other.hyps.as_slice(), hyp)
-        && is_shift(&sequent.goal, &other.goal, 0, 1)
+    if !extends(&sequent.context, &other.context, ty) {
+        return false;
+    }
+    if !are_shifted_and(sequent.hyps.as_slice(), other.hyps.as_slice(), hyp) {
+        return false;
+    }
+    is_shift(&sequent.goal, &other.goal, 0, 1)
 }
 
 /// Whether the hypotheses are the other ones shifted by one, and one more behind them.

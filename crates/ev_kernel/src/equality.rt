@@ -105,13 +105,18 @@ fn equates(premise: &Sequent, sequent: &Sequent, bound: Option<&Ty>, left: &Tree
         return false;
     }
     match equation_parts(&premise.goal) {
-        Some((_, s, t)) => same(s, left) && same(t, right),
+        Some((_, s, t)) => {
+            if !same(s, left) {
+                return false;
+            }
+            same(t, right)
+        }
         None => false,
     }
 }
 
 /// Whether the premises that the numbers name equate the terms, pair by pair.
-#[tactic(auto, using(crate::proofs::Congruence::walk))]
+
 fn are_equated(
     earlier: &Sequents,
     premises: &[u128],
@@ -123,7 +128,10 @@ fn are_equated(
     requires { AllByRecursion (λ n. (1 ≤ n) × (n ≤ length earlier.now)) premises.now }
     ensures { IsTrue result ↔ AreEquated (widened sequent.now (optional (option_copied bound.entry))) lefts.now rights.now (named earlier.now premises.now) }
 {
-    if lefts.len() != premises.len() || rights.len() != premises.len() {
+    if lefts.len() != premises.len() {
+        return false;
+    }
+    if rights.len() != premises.len() {
         return false;
     }
     for i in 0..premises.len() {
@@ -136,7 +144,7 @@ fn are_equated(
 }
 
 /// Whether the premises equate the children of the two terms, which have one symbol at the same types.
-#[tactic(auto, using(crate::proofs::Congruence::nodes))]
+
 fn are_congruent(
     earlier: &Sequents,
     premises: &[u128],
@@ -147,13 +155,20 @@ fn are_congruent(
     requires { AllByRecursion (λ n. (1 ≤ n) × (n ≤ length earlier.now)) premises.now }
     ensures { IsTrue result ↔ AreCongruent sequent.now left.now right.now (named earlier.now premises.now) }
 {
-    let (Some((sym, types, lefts)), Some((other, others, rights))) = (node_parts(left), node_parts(right)) else {
+    let Some((sym, types, lefts)) = node_parts(left) else {
         return false;
     };
-    if !sym.same(other) || !types.same(others) {
+    let Some((other, others, rights)) = node_parts(right) else {
+        return false;
+    };
+    if !sym.same(other) {
         return false;
     }
-    are_equated(earlier, premises, sequent, bound_type(sym, types), lefts, rights)
+    if !types.same(others) {
+        return false;
+    }
+    let bound = bound_type(sym, types);
+    are_equated(earlier, premises, sequent, bound, lefts, rights)
 }
 
 pub(crate) fn by_congruence(earlier: &Sequents, premises: &[u128], sequent: &Sequent) -> bool

@@ -26,7 +26,12 @@ pub(crate) fn by_any(premise: &Sequent, sequent: &Sequent) -> bool
     ensures { IsTrue result ↔ Row [] (premise.now ∷ []) AllI sequent.now }
 {
     match bound_parts(&sequent.goal, Binder::ForAll) {
-        Some((ty, body)) => stands_under(premise, sequent, ty) && same(&premise.goal, body),
+        Some((ty, body)) => {
+            if !stands_under(premise, sequent, ty) {
+                return false;
+            }
+            same(&premise.goal, body)
+        }
         None => false,
     }
 }
