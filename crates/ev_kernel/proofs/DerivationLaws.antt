@@ -101,11 +101,114 @@ follows_over e f k w ps rule S h = record {
 
 mutual
   derivable_over : (e f : Env) → IsPartOf e f → HasDistinctNames f → (S : Sequent) → Derivable e S → Derivable f S
-  derivable_over e f k w S (derived ps rule S h ds) = derived ps rule S (follows_over e f k w ps rule S h) (all_derivable_over e f k w ps ds)
+  derivable_over e f k w S (derived ps rule T h ds) = derived ps rule S (follows_over e f k w ps rule S h) (all_derivable_over e f k w ps ds)
 
   all_derivable_over : (e f : Env) → IsPartOf e f → HasDistinctNames f → (Ss : List Sequent) → AreDerivable e Ss → AreDerivable f Ss
   all_derivable_over e f k w [] none = none
-  all_derivable_over e f k w (S ∷ Ss) (more S Ss d ds) = more S Ss (derivable_over e f k w S d) (all_derivable_over e f k w Ss ds)
+  all_derivable_over e f k w (S ∷ Ss) (more T Ts d ds) = more S Ss (derivable_over e f k w S d) (all_derivable_over e f k w Ss ds)
 
 pub whole_derivable : WholeKeepsDerivable
 whole_derivable e f k w S d = derivable_over e f k w S d
+
+-- What is derivable has a derivation: those of the premises, one behind the other, and a last line.
+
+-- the line with its premises counted on from k
+abbrev moved : ℕ → Line → Line
+moved k l = record { sequent = l.sequent; rule = l.rule; premises = map (λ n. n + k) l.premises }
+
+slice_past : {X : Type 0} (xs ys : List X) (i : ℕ) → slice_get (xs ++ ys) (i + length xs) ≡ slice_get ys i
+slice_past [] ys i = let e : i + 0 ≡ i = omega arith in ap (slice_get ys) e
+slice_past (x ∷ xs) ys i = let e : i + suc (length xs) ≡ suc (i + length xs) = omega arith in ap (slice_get (x ∷ (xs ++ ys))) e ∙ slice_past xs ys i
+
+slice_map : {X Y : Type 0} (f : X → Y) (xs : List X) (i : ℕ) (x : X) → slice_get xs i ≡ Some x → slice_get (map f xs) i ≡ Some (f x)
+slice_map f [] i x h = cc
+slice_map f (y ∷ xs) zero x h = let e : y ≡ x = cc in ap (λ z. Some (f z)) e
+slice_map f (y ∷ xs) (suc i) x h = slice_map f xs i x h
+
+slice_first : {X : Type 0} (xs ys : List X) (i : ℕ) (x : X) → slice_get xs i ≡ Some x → slice_get (xs ++ ys) i ≡ Some x
+slice_first [] ys i x h = cc
+slice_first (y ∷ xs) ys zero x h = h
+slice_first (y ∷ xs) ys (suc i) x h = slice_first xs ys i x h
+
+slice_last : {X : Type 0} (xs ys : List X) (x : X) → slice_get (xs ++ x ∷ ys) (length xs) ≡ Some x
+slice_last [] ys x = refl
+slice_last (y ∷ xs) ys x = slice_last xs ys x
+
+at_moved : (es ls : List Line) (n : ℕ) (S : Sequent) → IsSequentAt ls n S → IsSequentAt (es ++ map (moved (length es)) ls) (n + length es) S
+at_moved es ls zero S (l, h, e) = cc
+at_moved es ls (suc i) S (l, h, e) =
+    let k : suc i + length es ≡ suc (i + length es) = omega arith in (
+      moved (length es) l,
+      ap (numbered (es ++ map (moved (length es)) ls)) k ∙ slice_past es (map (moved (length es)) ls) i ∙ slice_map (moved (length es)) ls i l h,
+      e,
+    )
+
+all_at_moved : (es ls : List Line) (ns : List ℕ) (Ss : List Sequent) → AllZip (IsSequentAt ls) ns Ss →
+    AllZip (IsSequentAt (es ++ map (moved (length es)) ls)) (map (λ n. n + length es) ns) Ss
+all_at_moved es ls [] [] z = tt
+all_at_moved es ls [] (S ∷ Ss) z = absurd z
+all_at_moved es ls (n ∷ ns) [] z = absurd z
+all_at_moved es ls (n ∷ ns) (S ∷ Ss) z = (at_moved es ls n S z.0, all_at_moved es ls ns Ss z.1)
+
+at_first : (ls ms : List Line) (n : ℕ) (S : Sequent) → IsSequentAt ls n S → IsSequentAt (ls ++ ms) n S
+at_first ls ms zero S (l, h, e) = cc
+at_first ls ms (suc i) S (l, h, e) = (l, slice_first ls ms i l h, e)
+
+line_moved : (env : Env) (es earlier : List Line) (l : Line) → LineFollows env earlier l → LineFollows env (es ++ map (moved (length es)) earlier) (moved (length es) l)
+line_moved env es earlier l (ps, z, f) = (ps, all_at_moved es earlier l.premises ps z, f)
+
+map_last : (f : Line → Line) (ls : List Line) (l : Line) → map f (ls ++ l ∷ []) ≡ map f ls ++ f l ∷ []
+map_last f [] l = refl
+map_last f (k ∷ ls) l = ap (λ ms. f k ∷ ms) (map_last f ls l)
+
+moved_after : (env : Env) (es earlier ls : List Line) → IsDerivationAfter env earlier ls → IsDerivationAfter env (es ++ map (moved (length es)) earlier) (map (moved (length es)) ls)
+moved_after env es earlier [] d = tt
+moved_after env es earlier (l ∷ ls) d = (
+  line_moved env es earlier l d.0,
+  transport (λ fs. IsDerivationAfter env fs (map (moved (length es)) ls))
+  (ap (λ fs. es ++ fs) (map_last (moved (length es)) earlier l) ∙ sym (append_assoc es (map (moved (length es)) earlier) (moved (length es) l ∷ [])))
+  (moved_after env es (earlier ++ l ∷ []) ls d.1),
+)
+
+append_nothing : (ls : List Line) → ls ++ [] ≡ ls
+append_nothing [] = refl
+append_nothing (l ∷ ls) = ap (λ ms. l ∷ ms) (append_nothing ls)
+
+joined : (env : Env) (earlier ls ms : List Line) → IsDerivationAfter env earlier ls → IsDerivationAfter env (earlier ++ ls) ms → IsDerivationAfter env earlier (ls ++ ms)
+joined env earlier [] ms d h = transport (λ es. IsDerivationAfter env es ms) (append_nothing earlier) h
+joined env earlier (l ∷ ls) ms d h =
+    (d.0, joined env (earlier ++ l ∷ []) ls ms d.1 (transport (λ es. IsDerivationAfter env es ms) (sym (append_assoc earlier (l ∷ []) ls)) h))
+
+-- a derivation in which each of the sequents has a line, by these numbers
+abbrev HaveLines : Env → List Sequent → Type 0
+HaveLines env Ss = (ls : List Line) × (ns : List ℕ) × IsDerivation env ls × AllZip (IsSequentAt ls) ns Ss
+
+abbrev HasLastLine : Env → Sequent → Type 0
+HasLastLine env S = (ls : List Line) × (l : Line) × IsDerivation env (ls ++ l ∷ []) × (l.sequent ≡ S)
+
+last_line : (env : Env) (ps : List Sequent) (rule : BaseRule) (S : Sequent) → Follows env ps rule S → HaveLines env ps → HasLastLine env S
+last_line env ps rule S f (ls, ns, d, z) =
+    let l : Line = record { sequent = S; rule = rule; premises = ns } in
+    (ls, l, joined env [] ls (l ∷ []) d ((ps, z, f), tt), refl)
+
+behind : (env : Env) (S : Sequent) (Ss : List Sequent) → HasLastLine env S → HaveLines env Ss → HaveLines env (S ∷ Ss)
+behind env S Ss (ls, l, d, e) (ms, ns, h, z) =
+    let es : List Line = ls ++ l ∷ [] in
+    let k : ℕ = length es in (
+      es ++ map (moved k) ms,
+      suc (length ls) ∷ map (λ n. n + k) ns,
+      joined env [] es (map (moved k) ms) d
+      (transport (λ fs. IsDerivationAfter env fs (map (moved k) ms)) (append_nothing es) (moved_after env es [] ms h)),
+      ((l, slice_first es (map (moved k) ms) (length ls) l (slice_last ls [] l), e), all_at_moved es ms ns Ss z),
+    )
+
+mutual
+  has_last_line : (env : Env) (S : Sequent) → Derivable env S → HasLastLine env S
+  has_last_line env S (derived ps rule T h ds) = last_line env ps rule S h (have_lines env ps ds)
+
+  have_lines : (env : Env) (Ss : List Sequent) → AreDerivable env Ss → HaveLines env Ss
+  have_lines env [] none = ([], [], tt, tt)
+  have_lines env (S ∷ Ss) (more T Ts d ds) = behind env S Ss (has_last_line env S d) (have_lines env Ss ds)
+
+pub derivable_derivation : DerivableHasDerivation
+derivable_derivation env S d = has_last_line env S d

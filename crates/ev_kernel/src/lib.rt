@@ -12,3 +12,6 @@ pub mod rules;
 
 pub use derivations::{lines_are_derivable, wholes_keep_derivable};
 pub use rules::{BaseRule, Line, Lines, infers};
+
+#[cfg(test)]
+mod tests;
