@@ -3,9 +3,9 @@ ghost use Rattle.std.specs.Prelude.{◌≤◌, length, IfOk};
 ghost use Rattle.std.specs.List.{AllByRecursion};
 
 use super::reading::{sequents, terms, types};
-use crate::{BaseRule, infers};
-use ev_terms::{NoMemory, Nums, Tree, Trees, TryCopy, Tys};
-use ev_typing::{Env, Sequent, Sequents};
+use crate::{BaseRule, Line, infers};
+use ev_terms::{NoMemory, Nums, Tree, TryCopy, make_var};
+use ev_typing::{Env, Sequents};
 use std::alloc::Global;
 use std::test::Fail;
 
@@ -87,8 +87,8 @@ fn count_of(alloc: Global, cases: &[(u8, &str)]) -> Result<usize, NoMemory> {
     Ok(count)
 }
 
-/// Each row without fields where it holds.
-const HOLD: [(u8, &str); 27] = [
+/// Each row without fields where it holds; congruence also under a binder, equations also between predicates.
+const HOLD: [(u8, &str); 29] = [
     (1, "/T F F"),
     (2, "/F T F; /T F F F"),
     (3, "/T F; /T F T; /T T"),
@@ -107,13 +107,172 @@ const HOLD: [(u8, &str); 27] = [
     (17, "/T F T; /T T F; /T F T -"),
     (18, "/T F T -; /T F; /T T"),
     (19, "/T F T -; /T T; /T F"),
-    (20, "ib/1 z i= 1 0 1 i= 0 t b= &; i/0 z i= 0 0 i= 0 t b= b"),
-    (23, "i/T 0 1 i= iE; ii/T 0 0 i= 1 z i=; i/T 0 z i="),
+    (20, "ib/1 z i= 1 z i= 0 t b= &; i/0 z i= 1 z i= 0 t b= & bA"),
+    (23, "i/0 z i= 0 1 i= iE; ii/1 z i= 0 1 i= 1 y i=; i/0 z i= 0 y i="),
     (24, "/F T T~ |"),
     (25, "i/0 0 i="),
     (26, "i/0 z i=; i/z 0 i="),
+    (26, "/T F -; /F T -"),
     (27, "i/0 z i=; i/z y i=; i/0 y i="),
     (28, "i/T 0 z i=; i/T 0 y i=; i/T 0 0 + z y + i="),
-    (29, "i/0 0 z i= iS : 0 z i= -"),
+    (28, "ib/1 z i= 1 z i= 1 y i= -; i/0 z i= 1 z i= bA 1 y i= bA -"),
+    (29, "ii/1 0 1 i= iS i: 1 0 i= -"),
     (30, "/T n t b= T -"),
 ];
+
+/// Cases of the rows up to `ImpI` that fail by one detail.
+const FAIL: [(u8, &str); 28] = [
+    (1, "/T F"),
+    (1, "/z z"),
+    (2, "/F T F; /T F"),
+    (2, "/T T; /T F"),
+    (2, "i/T T; /T T"),
+    (3, "/T F; /T T T; /T T"),
+    (3, "/T F; /T F F; /T T"),
+    (5, "/F"),
+    (5, "/z T"),
+    (6, "/T T; /T F"),
+    (6, "/F F; /T T"),
+    (7, "/F F; /F T~"),
+    (7, "/F T T; /F T~"),
+    (8, "/T T; /T F~; /T F"),
+    (8, "/T T; /T T~; /T T"),
+    (9, "/F T; /F T; /F T F &"),
+    (9, "/F F; /F T; /F T F &"),
+    (10, "/T T F &; /T F"),
+    (10, "/T T F |; /T T"),
+    (11, "/T T F &; /T T"),
+    (11, "/T T F |; /T F"),
+    (12, "/F F; /F T F |"),
+    (12, "/F T; /F T F &"),
+    (13, "/T T; /T T F |"),
+    (13, "/T F; /F T F |"),
+    (14, "/T T F |; /T T F T &; /T T F T &; /T F T &"),
+    (14, "/T T F |; /T F F T &; /T T F T &; /T F T &"),
+    (14, "/T T F &; /T T F T &; /T F F T &; /T F T &"),
+];
+
+/// And of the later ones.
+const FAIL_LATER: [(u8, &str); 31] = [
+    (15, "/F F; /F T F >"),
+    (15, "/T F F; /F T F >"),
+    (16, "/T T F >; /T F; /T F"),
+    (16, "/T T F >; /T T; /T T"),
+    (17, "/T F T; /T F T; /T F T -"),
+    (17, "/T T F; /T F T; /T F T -"),
+    (18, "/T F T -; /T T; /T F"),
+    (18, "/T F T >; /T F; /T T"),
+    (19, "/T F T -; /T F; /T T"),
+    (19, "/T F T >; /T T; /T F"),
+    (20, "ii/0 z i= 1 z i=; i/0 z i= 1 z i= iA"),
+    (20, "ib/1 z i= 1 z i=; i/0 z i= 1 z i= iA"),
+    (23, "i/0 z i= 0 1 i= iE; ii/0 z i= 0 1 i= 1 y i=; i/0 z i= 0 y i="),
+    (23, "i/0 z i= 0 1 i= iE; ii/1 z i= 0 1 i= 0 y i=; i/0 z i= 0 y i="),
+    (24, "/F T F~ |"),
+    (24, "/F T~ T |"),
+    (25, "i/0 z i="),
+    (25, "i/0 0 b="),
+    (26, "i/0 z i=; i/0 z i="),
+    (26, "/T F -; /T F -"),
+    (27, "i/0 z i=; i/y z i=; i/0 z i="),
+    (27, "i/0 z i=; i/z y i=; i/y 0 i="),
+    (28, "i/T 0 z i=; i/T 0 0 + z y + i="),
+    (28, "i/T 0 y i=; i/T 0 z i=; i/T 0 0 + z y + i="),
+    (28, "ii/0 z i= 1 z i= 1 y i= -; i/0 z i= 1 z i= iA 1 y i= iA -"),
+    (28, "ib/1 z i= 1 z i= 1 y i= -; i/0 z i= 1 z i= bA 1 y i= iA -"),
+    (29, "ii/1 0 1 i= iS i: 0 0 i= -"),
+    (29, "ii/1 0 1 i= iS i: 1 1 i= -"),
+    (30, "/T n t b= F -"),
+    (30, "/T n T n b= T -"),
+    (30, "/T n t i= T -"),
+];
+
+#[test]
+fn rows_hold(rt: HostRuntime) -> Result<(), Fail> {
+    assert_eq!(rt; count_of(rt.alloc(), &HOLD)?, 29);
+    Ok(())
+}
+
+#[test]
+fn rows_fail_by_one_detail(rt: HostRuntime) -> Result<(), Fail> {
+    assert_eq!(rt; count_of(rt.alloc(), &FAIL)?, 0);
+    assert_eq!(rt; count_of(rt.alloc(), &FAIL_LATER)?, 0);
+    Ok(())
+}
+
+/// Whether the row of instances holds for these types and terms.
+fn instance_follows(alloc: Global, put: &str, with: &str, text: &str) -> Result<bool, NoMemory> {
+    let rule = BaseRule::Inst(types(alloc, put)?, terms(alloc, with)?);
+    follows(alloc, &rule, text)
+}
+
+#[test]
+fn instances(rt: HostRuntime) -> Result<(), Fail> {
+    let alloc = rt.alloc();
+    let text = "pi/1 1 p= 0 z i= 1 1 p= &; /t t b= y z i= t t b= &";
+    assert!(rt; instance_follows(alloc, "b", "ty", text)?);
+    assert!(rt; !instance_follows(alloc, "b", "yt", text)?);
+    assert!(rt; !instance_follows(alloc, "i", "ty", text)?);
+    assert!(rt; !instance_follows(alloc, "b", "tz", text)?);
+    assert!(rt; !instance_follows(alloc, "b", "t", "p/T 0 0 p=; /F t t b=")?);
+    Ok(())
+}
+
+/// The first term of a text.
+fn term(alloc: Global, text: &str) -> Result<Tree, NoMemory> {
+    match terms(alloc, text)?.get(0) {
+        Some(tree) => tree.try_copy(alloc),
+        None => make_var(alloc, 0),
+    }
+}
+
+fn all_follows(alloc: Global, with: &str, text: &str) -> Result<bool, NoMemory> {
+    follows(alloc, &BaseRule::AllE(term(alloc, with)?), text)
+}
+
+#[test]
+fn instances_of_all(rt: HostRuntime) -> Result<(), Fail> {
+    let alloc = rt.alloc();
+    assert!(rt; all_follows(alloc, "z", "i/T 0 1 i= iA; i/T z 0 i=")?);
+    assert!(rt; !all_follows(alloc, "y", "i/T 0 1 i= iA; i/T z 0 i=")?);
+    assert!(rt; !all_follows(alloc, "z", "i/T 0 1 i= iA; i/T 0 z i=")?);
+    assert!(rt; all_follows(alloc, "t", "/T bA; /T")?);
+    assert!(rt; !all_follows(alloc, "t", "/T iA; /T")?);
+    Ok(())
+}
+
+fn some_follows(alloc: Global, with: &str, text: &str) -> Result<bool, NoMemory> {
+    follows(alloc, &BaseRule::ExI(term(alloc, with)?), text)
+}
+
+#[test]
+fn witnesses(rt: HostRuntime) -> Result<(), Fail> {
+    let alloc = rt.alloc();
+    assert!(rt; some_follows(alloc, "z", "i/T z 0 i=; i/T 0 1 i= iE")?);
+    assert!(rt; !some_follows(alloc, "y", "i/T z 0 i=; i/T 0 1 i= iE")?);
+    assert!(rt; !some_follows(alloc, "z", "i/T z 0 i=; i/T 0 1 i= iA")?);
+    assert!(rt; !some_follows(alloc, "t", "/T; /T iE")?);
+    Ok(())
+}
+
+/// Whether a copied line of a hypothesis still says what follows.
+fn copy_follows(alloc: Global, text: &str) -> Result<bool, NoMemory> {
+    let Some(sequent) = sequents(alloc, text)?.into_vec().pop() else {
+        return Ok(false);
+    };
+    let line = Line {
+        sequent,
+        rule: BaseRule::Hyp,
+        premises: Nums::new(alloc),
+    };
+    let copy = line.try_copy(alloc)?;
+    let none = Sequents::new(alloc);
+    let env = Env::new(alloc);
+    infers(alloc, &env, &none, &Nums::new(alloc), &copy.rule, &copy.sequent)
+}
+
+#[test]
+fn a_line_is_copied(rt: HostRuntime) -> Result<(), Fail> {
+    assert!(rt; copy_follows(rt.alloc(), "/T F F")?);
+    Ok(())
+}
