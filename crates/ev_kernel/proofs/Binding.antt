@@ -36,7 +36,7 @@ pub all_row : {E : Type 0} (env : Env) (p S : Sequent) (t : Term) (A : Ty) (P : 
 all_row env p S t A P r k e g h = IfOk-weaker r _ _ (λ b d. (
   λ y. (A, P, d.0 y, record { concludes = g; premises_are = ap (λ x. x ∷ []) (k ∙ ap (λ G. S ⊢ G) e) }),
   λ f. d.1 (transport (Typed env (type_list S.context) t)
-  (forall_type f.0 A f.1 P (sym (ap (λ (x : Sequent). x.goal) (only_is p (S ⊢ forall f.0 f.1) f.3.premises_are)) ∙ e)) f.2),
+      (forall_type f.0 A f.1 P (sym (ap (λ (x : Sequent). x.goal) (only_is p (S ⊢ forall f.0 f.1) f.3.premises_are)) ∙ e)) f.2),
 )) h
 
 pub some_row : {E : Type 0} (env : Env) (p S : Sequent) (t : Term) (A : Ty) (P : Term) (r : Result Boolean E) → p ≡ (S ⊢ p.goal) → S.goal ≡ exists A P → p.goal ≡ subst P (t ∷ []) →
@@ -54,12 +54,12 @@ pub member_form : (m u : Term) (A B : Ty) (t set Q : Term) (b : Boolean) → m �
 member_form m u A B t set Q b e f a d = (
   λ y. (A, t, Q, e ∙ ap (mem A t) (f ∙ ap (λ x. such_that x Q) (sym a)), d.0 y),
   λ g.
-    let h : mem A t set ≡ mem g.0 g.1 (such_that g.0 g.2) = sym e ∙ g.3 in
-    let k : set ≡ such_that g.0 g.2 = cc in
-    let l : such_that B Q ≡ such_that g.0 g.2 = sym f ∙ k in
-    let q : g.2 ≡ Q = cc in
-    let x : g.1 ≡ t = cc in
-    d.1 (g.4 ∙ ap (λ z. subst z (g.1 ∷ [])) q ∙ ap (λ z. subst Q (z ∷ [])) x),
+      let h : mem A t set ≡ mem g.0 g.1 (such_that g.0 g.2) = sym e ∙ g.3 in
+      let k : set ≡ such_that g.0 g.2 = cc in
+      let l : such_that B Q ≡ such_that g.0 g.2 = sym f ∙ k in
+      let q : g.2 ≡ Q = cc in
+      let x : g.1 ≡ t = cc in
+      d.1 (g.4 ∙ ap (λ z. subst z (g.1 ∷ [])) q ∙ ap (λ z. subst Q (z ∷ [])) x),
 )
 
 pub other_member : (m u : Term) (A B : Ty) (t set Q : Term) → m ≡ mem A t set → set ≡ such_that B Q → ¬ (A ≡ B) → IsTrue false ↔ IsMemberForm m u
@@ -95,9 +95,9 @@ other_hyps env p S As ts n =
 pub by_parts : (S T : Sequent) (b : Boolean) → S.context ≡ T.context → S.hyps ≡ T.hyps → (IsTrue b ↔ (S.goal ≡ T.goal)) → IsTrue b ↔ (S ≡ T)
 by_parts S T b e f d = (
   λ y.
-    ap (λ C. record { context = C; hyps = S.hyps; goal = S.goal }) e
-    ∙ ap (λ H. record { context = T.context; hyps = H; goal = S.goal }) f
-    ∙ ap (λ G. record { context = T.context; hyps = T.hyps; goal = G }) (d.0 y),
+      ap (λ C. record { context = C; hyps = S.hyps; goal = S.goal }) e
+      ∙ ap (λ H. record { context = T.context; hyps = H; goal = S.goal }) f
+      ∙ ap (λ G. record { context = T.context; hyps = T.hyps; goal = G }) (d.0 y),
   λ y. d.1 (ap (λ (x : Sequent). x.goal) y),
 )
 
@@ -122,9 +122,9 @@ any_row p S A P b k e d = (
 pub not_under : (p S : Sequent) (A : Ty) (P : Term) → ¬ (p ≡ (under S A ⊢ p.goal)) → S.goal ≡ forall A P → IsTrue false ↔ Row [] (p ∷ []) AllI S
 not_under p S A P n e =
     refused (λ f. n (
-      let h = only_is p (under S f.0 ⊢ f.1) f.2.premises_are in
-      let a = forall_type f.0 A f.1 P (sym f.2.concludes ∙ e) in
-      h ∙ ap (λ B. under S B ⊢ f.1) a ∙ ap (λ G. under S A ⊢ G) (sym (ap (λ (x : Sequent). x.goal) h))
+    let h = only_is p (under S f.0 ⊢ f.1) f.2.premises_are in
+    let a = forall_type f.0 A f.1 P (sym f.2.concludes ∙ e) in
+    h ∙ ap (λ B. under S B ⊢ f.1) a ∙ ap (λ G. under S A ⊢ G) (sym (ap (λ (x : Sequent). x.goal) h))
     ))
 
 both_are : (p q p' q' : Sequent) → p ∷ q ∷ [] ≡ p' ∷ q' ∷ [] → (p ≡ p') × (q ≡ q')
@@ -134,7 +134,7 @@ pub exists_row : (p q S : Sequent) (A : Ty) (P : Term) (b : Boolean) → p ≡ (
 exists_row p q S A P b k e d = (
   λ y. (A, P, ap (λ x. x ∷ q ∷ []) (k ∙ ap (λ G. S ⊢ G) e) ∙ ap (λ x. (S ⊢ exists A P) ∷ x ∷ []) (d.0 y)),
   λ f.
-    let h = both_are p q (S ⊢ exists f.0 f.1) (under S f.0 ▹ f.1) f.2 in
-    let g : exists f.0 f.1 ≡ exists A P = sym (ap (λ (x : Sequent). x.goal) h.0) ∙ e in
-    d.1 (h.1 ∙ ap (λ B. under S B ▹ f.1) (exists_type f.0 A f.1 P g) ∙ ap (λ Q. under S A ▹ Q) (exists_body f.0 A f.1 P g)),
+      let h = both_are p q (S ⊢ exists f.0 f.1) (under S f.0 ▹ f.1) f.2 in
+      let g : exists f.0 f.1 ≡ exists A P = sym (ap (λ (x : Sequent). x.goal) h.0) ∙ e in
+      d.1 (h.1 ∙ ap (λ B. under S B ▹ f.1) (exists_type f.0 A f.1 P g) ∙ ap (λ Q. under S A ▹ Q) (exists_body f.0 A f.1 P g)),
 )

@@ -131,14 +131,14 @@ congruent_nodes S l r s s' As As' ls rs Bs ps b e f g h k d =
     ∙ ap (λ us. AreEquated (at_children S s As) (term_list (terms ls)) us ps) (sym (term_list-terms rs)) in (
       λ y. (s, As, terms ls, terms rs, e, f ∙ ap (λ x. node x As' (terms rs)) (sym g) ∙ ap (λ x. node s x (terms rs)) (sym h), transport (λ T. T) w (d.0 y)),
       λ q.
-        let x = node_same s q.0 As q.1 (terms ls) q.2 (sym e ∙ q.4) in
-        let z = node_same s' q.0 As' q.1 (terms rs) q.3 (sym f ∙ q.5) in
-        let v : AreEquated (at_children S q.0 q.1) (term_list q.2) (term_list q.3) ps ≡ AreEquated (at_children S s As) (term_list (terms ls)) (term_list (terms rs)) ps =
-        ap (λ y. AreEquated (at_children S y q.1) (term_list q.2) (term_list q.3) ps) (sym x.0)
-        ∙ ap (λ y. AreEquated (at_children S s y) (term_list q.2) (term_list q.3) ps) (sym x.1)
-        ∙ ap (λ y. AreEquated (at_children S s As) (term_list y) (term_list q.3) ps) (sym x.2)
-        ∙ ap (λ y. AreEquated (at_children S s As) (term_list (terms ls)) (term_list y) ps) (sym z.2) in
-        d.1 (transport (λ T. T) (sym w) (transport (λ T. T) v q.6)),
+          let x = node_same s q.0 As q.1 (terms ls) q.2 (sym e ∙ q.4) in
+          let z = node_same s' q.0 As' q.1 (terms rs) q.3 (sym f ∙ q.5) in
+          let v : AreEquated (at_children S q.0 q.1) (term_list q.2) (term_list q.3) ps ≡ AreEquated (at_children S s As) (term_list (terms ls)) (term_list (terms rs)) ps =
+          ap (λ y. AreEquated (at_children S y q.1) (term_list q.2) (term_list q.3) ps) (sym x.0)
+          ∙ ap (λ y. AreEquated (at_children S s y) (term_list q.2) (term_list q.3) ps) (sym x.1)
+          ∙ ap (λ y. AreEquated (at_children S s As) (term_list y) (term_list q.3) ps) (sym x.2)
+          ∙ ap (λ y. AreEquated (at_children S s As) (term_list (terms ls)) (term_list y) ps) (sym z.2) in
+          d.1 (transport (λ T. T) (sym w) (transport (λ T. T) v q.6)),
     )
 
 pub other_node_symbol : (S : Sequent) (l r : Term) (s s' : Sym) (As As' : Tys) (ls rs : List Term) (ps : List Sequent) → l ≡ node s As (terms ls) → r ≡ node s' As' (terms rs) → ¬ (s ≡ s') →

@@ -55,12 +55,16 @@ row_over : (e f : Env) → HasAll e f → (ps : List Sequent) (rule : BaseRule) 
 row_over e f k ps Hyp S h = h
 row_over e f k ps Weak S h = h
 row_over e f k ps Cut S h = h
-row_over e f k ps (Inst As ts) S (T, q, i) = (T, q, record {
-  types_proper = all_proper_over e f k As i.types_proper;
-  terms_typed = all_typed_over e f k (type_list S.context) _ _ i.terms_typed;
-  hyps_are = i.hyps_are;
-  goal_is = i.goal_is;
-})
+row_over e f k ps (Inst As ts) S (T, q, i) = (
+  T,
+  q,
+  record {
+    types_proper = all_proper_over e f k As i.types_proper;
+    terms_typed = all_typed_over e f k (type_list S.context) _ _ i.terms_typed;
+    hyps_are = i.hyps_are;
+    goal_is = i.goal_is;
+  },
+)
 row_over e f k ps TrueI S h = h
 row_over e f k ps FalseE S h = h
 row_over e f k ps NotI S h = h
@@ -166,8 +170,8 @@ moved_after env es earlier [] d = tt
 moved_after env es earlier (l ∷ ls) d = (
   line_moved env es earlier l d.0,
   transport (λ fs. IsDerivationAfter env fs (map (moved (length es)) ls))
-  (ap (λ fs. es ++ fs) (map_last (moved (length es)) earlier l) ∙ sym (append_assoc es (map (moved (length es)) earlier) (moved (length es) l ∷ [])))
-  (moved_after env es (earlier ++ l ∷ []) ls d.1),
+      (ap (λ fs. es ++ fs) (map_last (moved (length es)) earlier l) ∙ sym (append_assoc es (map (moved (length es)) earlier) (moved (length es) l ∷ [])))
+      (moved_after env es (earlier ++ l ∷ []) ls d.1),
 )
 
 append_nothing : (ls : List Line) → ls ++ [] ≡ ls
@@ -198,7 +202,7 @@ behind env S Ss (ls, l, d, e) (ms, ns, h, z) =
       es ++ map (moved k) ms,
       suc (length ls) ∷ map (λ n. n + k) ns,
       joined env [] es (map (moved k) ms) d
-      (transport (λ fs. IsDerivationAfter env fs (map (moved k) ms)) (append_nothing es) (moved_after env es [] ms h)),
+          (transport (λ fs. IsDerivationAfter env fs (map (moved k) ms)) (append_nothing es) (moved_after env es [] ms h)),
       ((l, slice_first es (map (moved k) ms) (length ls) l (slice_last ls [] l), e), all_at_moved es ms ns Ss z),
     )
 

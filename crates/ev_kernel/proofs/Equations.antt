@@ -93,11 +93,11 @@ pub symmetric : (p S : Sequent) (As : Tys) (l r : Term) (b : Boolean) → p ≡ 
 symmetric p S As l r b k e h d = (
   λ y. (equated As, l, r, record { concludes = (d.0 y).0; premises_are = ap (λ x. x ∷ []) (k ∙ ap (λ G. S ⊢ G) e) }),
   λ f.
-    let A = f.0 in let s = f.1 in let t = f.2 in
-    let g : p.goal ≡ equation A s t = goal_of p S (equation A s t) (first_is p (S ⊢ equation A s t) [] [] f.3.premises_are) in
-    let q = same_sides (equated As) A l r s t (sym e ∙ g) in
-    let c : S.goal ≡ equation A r l = f.3.concludes ∙ ap (λ x. equation A x s) (sym q.1) ∙ ap (equation A r) (sym q.0) in
-    d.1 (of_kind A As p.goal S.goal s t r l g h c),
+      let A = f.0 in let s = f.1 in let t = f.2 in
+      let g : p.goal ≡ equation A s t = goal_of p S (equation A s t) (first_is p (S ⊢ equation A s t) [] [] f.3.premises_are) in
+      let q = same_sides (equated As) A l r s t (sym e ∙ g) in
+      let c : S.goal ≡ equation A r l = f.3.concludes ∙ ap (λ x. equation A x s) (sym q.1) ∙ ap (equation A r) (sym q.0) in
+      d.1 (of_kind A As p.goal S.goal s t r l g h c),
 )
 
 -- Transitivity.
@@ -122,12 +122,18 @@ pub transitive : (p q S : Sequent) (As Bs : Tys) (l m n r : Term) (b : Boolean) 
     q.goal ≡ equation (equated Bs) n r → types_of q.goal ≡ Some Bs → As ≡ Bs → m ≡ n →
     (IsTrue b ↔ ((S.goal ≡ equation (equated As) l r) × (types_of S.goal ≡ Some As))) → IsTrue b ↔ Row [] (p ∷ q ∷ []) Trans S
 transitive p q S As Bs l m n r b k k' e h e' h' a x d = (
-  λ y. (equated As, l, m, r, record {
-    concludes = (d.0 y).0;
-    premises_are =
-        ap (λ z. z ∷ q ∷ []) (k ∙ ap (λ G. S ⊢ G) e)
-        ∙ ap (λ z. (S ⊢ equation (equated As) l m) ∷ z ∷ []) (k' ∙ ap (λ G. S ⊢ G) (e' ∙ ap (λ z. equation (equated z) n r) (sym a) ∙ ap (λ z. equation (equated As) z r) (sym x)));
-  }),
+  λ y. (
+    equated As,
+    l,
+    m,
+    r,
+    record {
+      concludes = (d.0 y).0;
+      premises_are =
+          ap (λ z. z ∷ q ∷ []) (k ∙ ap (λ G. S ⊢ G) e)
+          ∙ ap (λ z. (S ⊢ equation (equated As) l m) ∷ z ∷ []) (k' ∙ ap (λ G. S ⊢ G) (e' ∙ ap (λ z. equation (equated z) n r) (sym a) ∙ ap (λ z. equation (equated As) z r) (sym x)));
+    },
+  ),
   λ f. d.1 (chain p q S As Bs l m n r e h e' h' f).ends,
 )
 
@@ -136,6 +142,6 @@ pub congruent : (S : Sequent) (A : Ty) (l r : Term) (ps : List Sequent) (b : Boo
 congruent S A l r ps b e d = (
   λ y. (A, l, r, e, d.0 y),
   λ f.
-    let q = same_sides f.0 A f.1 f.2 l r (sym f.3 ∙ e) in
-    d.1 (transport (λ x. AreCongruent S l x ps) q.1 (transport (λ x. AreCongruent S x f.2 ps) q.0 f.4)),
+      let q = same_sides f.0 A f.1 f.2 l r (sym f.3 ∙ e) in
+      d.1 (transport (λ x. AreCongruent S l x ps) q.1 (transport (λ x. AreCongruent S x f.2 ps) q.0 f.4)),
 )

@@ -90,15 +90,17 @@ pub(crate) fn by_transitivity(first: &Sequent, second: &Sequent, sequent: &Seque
 fn bound_type<'a>(sym: &Sym, types: &'a Tys) -> Option<&'a Ty>
     ensures { optional (option_copied result) ≡ take (binds sym.now) (type_list types.now) }
 {
-    if binds(sym) == 0 {
-        None
-    } else {
-        types.get(0)
-    }
+    if binds(sym) == 0 { None } else { types.get(0) }
 }
 
 /// Whether the premise equates the two terms in the context of the symbol's children.
-fn equates(premise: &Sequent, sequent: &Sequent, bound: Option<&Ty>, left: &Tree, right: &Tree) -> bool
+fn equates(
+    premise: &Sequent,
+    sequent: &Sequent,
+    bound: Option<&Ty>,
+    left: &Tree,
+    right: &Tree,
+) -> bool
     ensures { IsTrue result ↔ ((A : Ty) × (premise.now ≡ (widened sequent.now (optional (option_copied bound.entry)) ⊢ equation A left.now right.now))) }
 {
     if !stands_inside(premise, sequent, bound) {

@@ -21,42 +21,63 @@ use ev_terms::{ListOf, NoMemory, Nums, Tree, Trees, TryCopy, Tys};
 use ev_typing::{Env, Sequent, Sequents, is_base_sequent};
 use std::alloc::Global;
 
-/// The rules of the base logic, a classical sequent calculus with equality: one variant for each row of their table.
+/// The rules of the base logic, a classical sequent calculus with equality, one for each row of their table in `docs/logic.md`. The
+/// names that end in I introduce the symbol in the conclusion, and those that end in E use it in a premise.
 #[derive(Drop)]
 pub enum BaseRule {
-    /// A hypothesis.
+    /// The goal is a hypothesis.
     Hyp,
     /// Fewer hypotheses, or the same in another order.
     Weak,
-    /// By a further hypothesis that is proved.
+    /// By a further hypothesis, which is proved.
     Cut,
-    /// Types for the parameters, and a term for each variable of the premise's context, that of the outermost first.
+    /// Types put for the type parameters, and a term for each variable of the premise's context, that of the outermost first.
     Inst(Tys, Trees),
+    /// `true`
     TrueI,
+    /// From `false` anything.
     FalseE,
+    /// What leads to `false` is not so.
     NotI,
+    /// P and `not P` give `false`.
     NotE,
+    /// Both sides give `P & Q`.
     AndI,
+    /// The left side of `P & Q`.
     AndE1,
+    /// The right side of `P & Q`.
     AndE2,
+    /// The left side gives `P or Q`.
     OrI1,
+    /// The right side gives `P or Q`.
     OrI2,
+    /// By cases on `P or Q`.
     OrE,
+    /// The right side of `P => Q` under the left one.
     ImpI,
+    /// Modus ponens.
     ImpE,
+    /// Each side of `P <=> Q` under the other one.
     IffI,
+    /// The right side from `P <=> Q` and the left one.
     IffE1,
+    /// The left side from `P <=> Q` and the right one.
     IffE2,
+    /// `!x. P` from P for a new variable.
     AllI,
-    /// The term that is put for the bound variable.
+    /// `!x. P` at this term.
     AllE(Tree),
-    /// The term that is put for the bound variable.
+    /// `#x. P` by this term.
     ExI(Tree),
+    /// From `#x. P` by P for a new variable.
     ExE,
-    /// A predicate or its negation.
+    /// `P or not P`
     Em,
+    /// An equation with the same sides.
     Refl,
+    /// The sides of an equation exchanged.
     Sym,
+    /// Two equations with one side in common.
     Trans,
     /// One symbol at the same types, on children that are equal one by one.
     Cong,

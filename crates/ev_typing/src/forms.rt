@@ -127,7 +127,11 @@ fn row_parts(tree: &Tree, row: u16) -> Option<(&Tys, &[Tree])>
 {
     let (sym, types, children) = node_parts(tree)?;
     match sym {
-        Sym::Base(found) => if *found == row { Some((types, children)) } else { None },
+        Sym::Base(found) => if *found == row {
+            Some((types, children))
+        } else {
+            None
+        },
         Sym::User(_) => None,
     }
 }
@@ -249,7 +253,11 @@ fn expressions_of(tree: &Tree) -> Option<(&Tree, &Tree)>
     ensures none { IfNone result ((A : Ty) (s t : Term) → A ≢ Prop → tree.now ≢ equation A s t) }
 {
     match related_parts(tree, Relation::Equal) {
-        Some((ty, left, right)) => if is_prop(ty) { None } else { Some((left, right)) },
+        Some((ty, left, right)) => if is_prop(ty) {
+            None
+        } else {
+            Some((left, right))
+        },
         None => None,
     }
 }

@@ -108,14 +108,20 @@ const HOLD: [(u8, &str); 29] = [
     (18, "/T F T -; /T F; /T T"),
     (19, "/T F T -; /T T; /T F"),
     (20, "ib/1 z i= 1 z i= 0 t b= &; i/0 z i= 1 z i= 0 t b= & bA"),
-    (23, "i/0 z i= 0 1 i= iE; ii/1 z i= 0 1 i= 1 y i=; i/0 z i= 0 y i="),
+    (
+        23,
+        "i/0 z i= 0 1 i= iE; ii/1 z i= 0 1 i= 1 y i=; i/0 z i= 0 y i=",
+    ),
     (24, "/F T T~ |"),
     (25, "i/0 0 i="),
     (26, "i/0 z i=; i/z 0 i="),
     (26, "/T F -; /F T -"),
     (27, "i/0 z i=; i/z y i=; i/0 y i="),
     (28, "i/T 0 z i=; i/T 0 y i=; i/T 0 0 + z y + i="),
-    (28, "ib/1 z i= 1 z i= 1 y i= -; i/0 z i= 1 z i= bA 1 y i= bA -"),
+    (
+        28,
+        "ib/1 z i= 1 z i= 1 y i= -; i/0 z i= 1 z i= bA 1 y i= bA -",
+    ),
     (29, "ii/1 0 1 i= iS i: 1 0 i= -"),
     (30, "/T n t b= T -"),
 ];
@@ -166,8 +172,14 @@ const FAIL_LATER: [(u8, &str); 31] = [
     (19, "/T F T >; /T T; /T F"),
     (20, "ii/0 z i= 1 z i=; i/0 z i= 1 z i= iA"),
     (20, "ib/1 z i= 1 z i=; i/0 z i= 1 z i= iA"),
-    (23, "i/0 z i= 0 1 i= iE; ii/0 z i= 0 1 i= 1 y i=; i/0 z i= 0 y i="),
-    (23, "i/0 z i= 0 1 i= iE; ii/1 z i= 0 1 i= 0 y i=; i/0 z i= 0 y i="),
+    (
+        23,
+        "i/0 z i= 0 1 i= iE; ii/0 z i= 0 1 i= 1 y i=; i/0 z i= 0 y i=",
+    ),
+    (
+        23,
+        "i/0 z i= 0 1 i= iE; ii/1 z i= 0 1 i= 0 y i=; i/0 z i= 0 y i=",
+    ),
     (24, "/F T F~ |"),
     (24, "/F T~ T |"),
     (25, "i/0 z i="),
@@ -178,8 +190,14 @@ const FAIL_LATER: [(u8, &str); 31] = [
     (27, "i/0 z i=; i/z y i=; i/y 0 i="),
     (28, "i/T 0 z i=; i/T 0 0 + z y + i="),
     (28, "i/T 0 y i=; i/T 0 z i=; i/T 0 0 + z y + i="),
-    (28, "ii/0 z i= 1 z i= 1 y i= -; i/0 z i= 1 z i= iA 1 y i= iA -"),
-    (28, "ib/1 z i= 1 z i= 1 y i= -; i/0 z i= 1 z i= bA 1 y i= iA -"),
+    (
+        28,
+        "ii/0 z i= 1 z i= 1 y i= -; i/0 z i= 1 z i= iA 1 y i= iA -",
+    ),
+    (
+        28,
+        "ib/1 z i= 1 z i= 1 y i= -; i/0 z i= 1 z i= bA 1 y i= iA -",
+    ),
     (29, "ii/1 0 1 i= iS i: 0 0 i= -"),
     (29, "ii/1 0 1 i= iS i: 1 1 i= -"),
     (30, "/T n t b= F -"),
@@ -268,7 +286,14 @@ fn copy_follows(alloc: Global, text: &str) -> Result<bool, NoMemory> {
     let copy = line.try_copy(alloc)?;
     let none = Sequents::new(alloc);
     let env = Env::new(alloc);
-    infers(alloc, &env, &none, &Nums::new(alloc), &copy.rule, &copy.sequent)
+    infers(
+        alloc,
+        &env,
+        &none,
+        &Nums::new(alloc),
+        &copy.rule,
+        &copy.sequent,
+    )
 }
 
 #[test]
