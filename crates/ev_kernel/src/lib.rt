@@ -1,8 +1,16 @@
 //! The base rules and derivability by them.
 #![tactic(auto)]
 
+mod contexts;
+pub mod derivations;
+mod equality;
+mod instances;
+mod numbers;
+mod propositional;
+mod quantifiers;
 pub mod rules;
 
+pub use derivations::{lines_are_derivable, wholes_keep_derivable};
 pub use rules::{BaseRule, Line, Lines, infers};
 
 #[cfg(test)]

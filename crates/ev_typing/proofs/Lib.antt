@@ -1,4 +1,6 @@
 pub mod Views
+pub mod FormViews
+pub mod BaseSequents
 pub mod Laws
 pub mod Proper
 pub mod Names

@@ -69,7 +69,7 @@ look_up_first (p ∷ ps) qs n x h = by (bytes_eq p.0 n) h (look_up_first ps qs n
     by true e k = e
     by false e k = k e
 
-found_part : {X : Type 0} (sel : Entry → List (Name × X)) → KeepsNames sel → (e f : Env) (n : Name) (x : X) → HasDistinctNames f → IsPartOf e f →
+pub found_part : {X : Type 0} (sel : Entry → List (Name × X)) → KeepsNames sel → (e f : Env) (n : Name) (x : X) → HasDistinctNames f → IsPartOf e f →
     look_up (flat_map sel e) n ≡ Some x → look_up (flat_map sel f) n ≡ Some x
 found_part sel keeps [] f n x w h g = cc
 found_part {X} sel keeps (d ∷ ds) f n x w h g = by (look_up (sel d) n) refl (found_part sel keeps ds f n x w h.1)

@@ -1,7 +1,9 @@
 pub mod Base
 pub mod Forms
 pub mod Connectives
+pub mod Binders
 pub mod Sequents
+pub mod BaseSequents
 pub mod Profiles
 pub mod Env
 pub mod Typing

@@ -1,11 +1,15 @@
--- The datatype of lists, as a sample.
+-- The datatype of lists and a direct operator, as samples.
 use Rattle.std.specs.Prelude.{List, [], ◌∷◌, codes}
-use Rattle.ev_terms.specs.declared.types.Ty.{Param, Data as DataType}
+use Rattle.std.specs.Prelude.{None}
+use Rattle.ev_terms.specs.declared.types.Ty.{Prop, Param, Data as DataType}
 use Rattle.ev_terms.specs.declared.types.Tys.{Empty}
 use Rattle.ev_terms.specs.Types.{more}
 use Rattle.ev_typing.specs.declared.typing.DataDecl.{DataDecl}
 use Rattle.ev_typing.specs.declared.typing.Var.{Var}
-use Rattle.ev_typing.specs.declared.typing.Entry.TheVariants.{Data}
+use Rattle.ev_typing.specs.declared.typing.Entry.{Entry}
+use Rattle.ev_typing.specs.declared.typing.Entry.TheVariants.{Data, Direct}
+use Rattle.ev_typing.specs.declared.typing.Signature.{Signature}
+use Rattle.ev_typing.specs.Forms.{truth}
 use Rattle.ev_typing.specs.Env.{Env}
 
 -- head: ?0, tail: list(?0)
@@ -26,3 +30,11 @@ list_decl = record {
 -- it alone is declared
 abbrev pub list_env : Env
 list_env = Data list_decl ∷ []
+
+-- top, a predicate
+abbrev pub top_signature : Signature
+top_signature = record { name = codes "top"; params = 0; args = Empty; result = Prop }
+
+-- that is defined as `true`
+abbrev pub top_entry : Entry
+top_entry = Direct top_signature None truth

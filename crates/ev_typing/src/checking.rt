@@ -66,7 +66,7 @@ pub fn type_of(alloc: Global, env: &Env, context: &Tys, tree: &Tree) -> Result<O
 }
 
 #[tactic(auto, using(crate::proofs::Signatures::counting))]
-fn types_of(alloc: Global, list: &Tys) -> Result<Vec<Ty>, NoMemory>
+pub(crate) fn types_of(alloc: Global, list: &Tys) -> Result<Vec<Ty>, NoMemory>
     ensures { IfOk result (λ types. types.items ≡ type_list list.now) }
 {
     let mut types = Vec::new(alloc);
@@ -185,7 +185,7 @@ fn fit_inside(
 
 #[cycle(type_in)]
 #[tactic(auto, using(crate::proofs::Checks::walk))]
-fn all_fit(
+pub(crate) fn all_fit(
     alloc: Global,
     env: &Env,
     context: &mut Vec<Ty>,
@@ -208,7 +208,7 @@ fn all_fit(
 
 #[cycle(type_in)]
 #[tactic(auto, using(crate::proofs::Checks::walk))]
-fn fits(
+pub(crate) fn fits(
     alloc: Global,
     env: &Env,
     context: &mut Vec<Ty>,

@@ -75,7 +75,7 @@ pub fn make_joined(
 
 /// The symbol's row and the children of a term that has a base symbol without type arguments at its root.
 #[tactic(auto, using(crate::proofs::Views::base_node))]
-fn base_parts(tree: &Tree) -> Option<(u16, &[Tree])>
+pub(crate) fn base_parts(tree: &Tree) -> Option<(u16, &[Tree])>
     ensures found { IfSome result (λ p. tree.now ≡ node (Base p.0) Empty (terms p.1.now)) }
     ensures none { IfNone result ((row : ℕ) (ts : Terms) → tree.now ≢ node (Base row) Empty ts) }
 {
@@ -87,7 +87,7 @@ fn base_parts(tree: &Tree) -> Option<(u16, &[Tree])>
 
 /// Whether the term is a base symbol alone.
 #[tactic(auto, using(crate::proofs::Views::leaves))]
-fn is_leaf(tree: &Tree, row: u16) -> bool
+pub(crate) fn is_leaf(tree: &Tree, row: u16) -> bool
     ensures { IsTrue result ↔ (tree.now ≡ node (Base row) Empty nil) }
 {
     match base_parts(tree) {
@@ -116,7 +116,7 @@ pub fn is_falsity(tree: &Tree) -> bool
 }
 
 /// The two children of a node with two.
-fn pair_of(children: &[Tree]) -> Option<(&Tree, &Tree)>
+pub(crate) fn pair_of(children: &[Tree]) -> Option<(&Tree, &Tree)>
     ensures found { IfSome result (λ p. children.now ≡ p.0.now ∷ p.1.now ∷ []) }
     ensures none { IfNone result ((P Q : Term) → children.now ≢ P ∷ Q ∷ []) }
 {

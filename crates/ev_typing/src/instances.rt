@@ -233,7 +233,7 @@ fn signature_at(
 }
 
 #[tactic(auto, using(crate::proofs::Signatures::counting))]
-fn types_at(alloc: Global, list: &Tys, types: &Tys) -> Result<ListOf<Ty>, NoMemory>
+pub(crate) fn types_at(alloc: Global, list: &Tys, types: &Tys) -> Result<ListOf<Ty>, NoMemory>
     ensures { IfOk result (λ args. args ≡ map (type_inst (type_at types.now)) (type_list list.now)) }
 {
     let mut args = ListOf::new(alloc);

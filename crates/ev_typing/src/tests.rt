@@ -4,6 +4,8 @@ ghost use Rattle.ev_terms.specs.declared.types.Tys.{Empty};
 ghost use Rattle.ev_terms.specs.Types.{more};
 ghost use Rattle.ev_typing.specs.Samples.{cons_fields, list_decl, list_env};
 
+mod forms;
+
 use super::*;
 use ev_terms::{
     Name, NoMemory, Same, Shared, Sym, Tree, Trees, TryCopy, Ty, Tys, binds, make_lit, make_node,
