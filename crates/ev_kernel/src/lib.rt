@@ -11,7 +11,7 @@ mod quantifiers;
 pub mod rules;
 
 pub use derivations::{lines_are_derivable, wholes_keep_derivable};
-pub use rules::{BaseRule, Line, Lines, infers};
+pub use rules::{BaseRule, Line, Lines, concludes, infers};
 
 #[cfg(test)]
 mod tests;

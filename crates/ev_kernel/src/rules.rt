@@ -300,6 +300,19 @@ fn is_row(
     }
 }
 
+/// Whether the sequent is a conclusion of the rule without premises. Types are not looked at: a sequent that is known to be well typed
+/// and without direct operators then follows by the rule.
+pub fn concludes(
+    alloc: Global,
+    env: &Env,
+    rule: &BaseRule,
+    conclusion: &Sequent,
+) -> Result<bool, NoMemory>
+    ensures { IfOk result (λ yes. IsTrue yes ↔ Row env.now [] rule.now conclusion.now) }
+{
+    is_row(alloc, env, &Sequents::new(alloc), &[], rule, conclusion)
+}
+
 /// Whether the sequents that the numbers name are well typed and without direct operators.
 #[tactic(auto, using(crate::proofs::Rows::named_base))]
 fn are_base(
