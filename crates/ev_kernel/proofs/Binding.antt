@@ -8,9 +8,9 @@ use Rattle.ev_terms.specs.Types.{type_list}
 use Rattle.ev_terms.specs.Term.{Term, terms}
 use Rattle.ev_terms.specs.Subst.{subst, fill, instance, type_inst, type_at}
 use Rattle.ev_typing.specs.declared.typing.Sequent.{Sequent}
-use Rattle.ev_typing.specs.Base.{at_type}
-use Rattle.ev_typing.specs.Forms.{forall, exists, eq, mem, such_that}
-use Rattle.ev_typing.specs.Binders.{equated}
+use Rattle.ev_forms.specs.Base.{at_type}
+use Rattle.ev_forms.specs.Forms.{forall, exists, eq, mem, such_that}
+use Rattle.ev_forms.specs.Binders.{equated}
 use Rattle.ev_typing.specs.Env.{Env}
 use Rattle.ev_typing.specs.Typing.{Typed, AreTyped, AreProper}
 use Rattle.ev_typing.specs.Sequents.{◌⊢◌, ◌▹◌}

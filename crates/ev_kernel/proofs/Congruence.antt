@@ -11,7 +11,8 @@ use Rattle.ev_terms.specs.Symbols.{binds}
 use Rattle.ev_terms.specs.Subst.{shift}
 use Rattle.ev_terms.proofs.Laws.{shift-zero}
 use Rattle.ev_typing.specs.declared.typing.Sequent.{Sequent}
-use Rattle.ev_typing.specs.Forms.{types, equation}
+use Rattle.ev_typing.specs.TypeLists.{types}
+use Rattle.ev_forms.specs.Forms.{equation}
 use Rattle.ev_typing.specs.Sequents.{◌⊢◌}
 use Rattle.ev_typing.specs.BaseSequents.{widened}
 use Rattle.ev_typing.proofs.Laws.{types-type_list}

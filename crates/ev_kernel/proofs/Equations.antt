@@ -6,10 +6,10 @@ use Rattle.ev_terms.specs.declared.types.Tys.{Tys}
 use Rattle.ev_terms.specs.Types.{pow, prod}
 use Rattle.ev_terms.specs.Term.{Term, Terms, node, types_of, children}
 use Rattle.ev_typing.specs.declared.typing.Sequent.{Sequent}
-use Rattle.ev_typing.specs.Forms.{equation}
-use Rattle.ev_typing.specs.Binders.{equated}
+use Rattle.ev_forms.specs.Forms.{equation}
+use Rattle.ev_forms.specs.Binders.{equated}
 use Rattle.ev_typing.specs.Sequents.{◌⊢◌}
-use Rattle.ev_typing.proofs.FormViews.{equated_at}
+use Rattle.ev_forms.proofs.FormViews.{equated_at}
 use Rattle.ev_kernel.specs.declared.rules.BaseRule.TheVariants.{Refl, Sym as Symmetry, Trans, Cong}
 use Rattle.ev_kernel.specs.Row.{Row, Fits, AreCongruent}
 

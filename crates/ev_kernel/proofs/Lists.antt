@@ -7,7 +7,7 @@ use Rattle.ev_terms.specs.declared.types.Tys.TheVariants.{More}
 use Rattle.ev_terms.specs.Types.{type_list, More-more}
 use Rattle.ev_terms.proofs.TypeSteps.{type_list-More}
 use Rattle.ev_terms.proofs.Children.{drop_at, drop_all}
-use Rattle.ev_typing.specs.Forms.{types}
+use Rattle.ev_typing.specs.TypeLists.{types}
 use Rattle.ev_typing.proofs.Laws.{types-type_list}
 use Rattle.ev_kernel.specs.Contexts.{optional}
 use Rattle.ev_kernel.proofs.Equations.{refused}

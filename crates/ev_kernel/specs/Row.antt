@@ -11,7 +11,7 @@ use Rattle.ev_terms.specs.Symbols.{binds}
 use Rattle.ev_terms.specs.Subst.{subst, fill, instance, type_inst, type_at}
 use Rattle.ev_typing.specs.declared.typing.Sequent.{Sequent}
 use Rattle.ev_typing.specs.Env.{Env}
-use Rattle.ev_typing.specs.Forms.{truth, falsity, neg, conj, disj, imp, iff, forall, exists, eq, mem, bool_of, bool_true, such_that, equation}
+use Rattle.ev_forms.specs.Forms.{truth, falsity, neg, conj, disj, imp, iff, forall, exists, eq, mem, bool_of, bool_true, such_that, equation}
 use Rattle.ev_typing.specs.Typing.{Typed, AreTyped, AreProper}
 use Rattle.ev_typing.specs.Sequents.{◌⊢◌, ◌▹◌}
 use Rattle.ev_typing.specs.BaseSequents.{widened, under}

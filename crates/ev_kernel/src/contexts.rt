@@ -5,7 +5,7 @@ ghost use Rattle.std.specs.List.{AllByRecursion};
 ghost use Rattle.ev_terms.specs.declared.types.Tys.{Empty};
 ghost use Rattle.ev_terms.specs.Types.{type_list};
 ghost use Rattle.ev_terms.specs.Subst.{shift};
-ghost use Rattle.ev_typing.specs.Forms.{types};
+ghost use Rattle.ev_typing.specs.TypeLists.{types};
 ghost use Rattle.ev_typing.specs.Sequents.{◌⊢◌, ◌▹◌};
 ghost use Rattle.ev_typing.specs.BaseSequents.{widened, under};
 ghost use Rattle.ev_kernel.specs.Contexts.{optional};

@@ -7,8 +7,8 @@ ghost use Rattle.ev_terms.specs.Types.{type_list};
 ghost use Rattle.ev_terms.specs.Symbols.{binds};
 ghost use Rattle.ev_terms.specs.Term.{Term, types_of};
 ghost use Rattle.ev_terms.specs.Subst.{subst};
-ghost use Rattle.ev_typing.specs.Binders.{equated};
-ghost use Rattle.ev_typing.specs.Forms.{equation, eq, mem, such_that, bool_of, bool_true};
+ghost use Rattle.ev_forms.specs.Binders.{equated};
+ghost use Rattle.ev_forms.specs.Forms.{equation, eq, mem, such_that, bool_of, bool_true};
 ghost use Rattle.ev_typing.specs.Sequents.{◌⊢◌};
 ghost use Rattle.ev_typing.specs.BaseSequents.{widened};
 ghost use Rattle.ev_kernel.specs.Contexts.{optional};
@@ -19,11 +19,12 @@ ghost use Rattle.ev_kernel.specs.declared.rules.BaseRule.TheVariants.{Refl, Sym 
 use crate::contexts::{stands_beside, stands_inside};
 use crate::numbers::premise_of;
 use crate::quantifiers::is_with;
-use ev_terms::{Same, Sym, Tree, Ty, Tys, binds, same};
-use ev_typing::{
-    Binder, Connective, Relation, Sequent, Sequents, bool_part, bound_parts, equation_parts,
-    is_true_value, joined_parts, node_parts, related_parts,
+use ev_forms::{
+    Binder, Connective, Relation, bool_part, bound_parts, equation_parts, is_true_value,
+    joined_parts, node_parts, related_parts,
 };
+use ev_terms::{Same, Sym, Tree, Ty, Tys, binds, same};
+use ev_typing::{Sequent, Sequents};
 
 pub(crate) fn by_reflexivity(sequent: &Sequent) -> bool
     ensures { IsTrue result ↔ Row [] [] Refl sequent.now }

@@ -4,8 +4,8 @@ ghost use Rattle.ev_terms.specs.Term.{var, sym_of};
 ghost use Rattle.ev_terms.specs.Measures.{loose};
 ghost use Rattle.ev_terms.specs.Subst.{shift, inst, lifts, entry, fill};
 
+use ev_forms::node_parts;
 use ev_terms::{Same, Tree, binds, loose, same};
-use ev_typing::node_parts;
 
 /// Whether the term is the other one with its variables from `from` on raised by `by`. Linear in the term.
 #[cycle(is_shift)]

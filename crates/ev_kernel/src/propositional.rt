@@ -1,15 +1,16 @@
 //! The rows of the structural rules and of the propositional connectives. Each function says whether its row holds.
 ghost use Rattle.std.specs.Prelude.{◌≡◌, ◌↔◌, [], ◌∷◌, IsTrue};
 ghost use Rattle.ev_terms.specs.Term.{Term};
-ghost use Rattle.ev_typing.specs.Forms.{neg};
-ghost use Rattle.ev_typing.specs.Connectives.{joined};
+ghost use Rattle.ev_forms.specs.Forms.{neg};
+ghost use Rattle.ev_forms.specs.Connectives.{joined};
 ghost use Rattle.ev_typing.specs.Sequents.{◌⊢◌};
 ghost use Rattle.ev_kernel.specs.Row.{Row};
 ghost use Rattle.ev_kernel.specs.declared.rules.BaseRule.TheVariants.{Hyp, Weak, Cut, TrueI, FalseE, NotI, NotE, AndI, AndE1, AndE2, OrI1, OrI2, OrE, ImpI, ImpE, IffI, IffE1, IffE2, Em};
 
 use crate::contexts::{are_among, assumes, has_goal, is_among, stands_beside};
+use ev_forms::{Connective, is_falsity, is_truth, joined_parts, negated_part};
 use ev_terms::{Same, Tree, same};
-use ev_typing::{Connective, Sequent, is_falsity, is_truth, joined_parts, negated_part};
+use ev_typing::Sequent;
 
 pub(crate) fn by_hypothesis(sequent: &Sequent) -> bool
     ensures { IsTrue result ↔ Row [] [] Hyp sequent.now }

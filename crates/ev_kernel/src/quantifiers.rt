@@ -9,8 +9,9 @@ ghost use Rattle.ev_kernel.specs.declared.rules.BaseRule.TheVariants.{Inst, AllI
 
 use crate::contexts::{assumes_under, stands_beside, stands_under};
 use crate::instances::is_filled;
+use ev_forms::{Binder, bound_parts};
 use ev_terms::{NoMemory, Tree, Trees, Tys, instantiate_types, same};
-use ev_typing::{Binder, Env, Sequent, are_proper, bound_parts, has_type, have_types_at};
+use ev_typing::{Env, Sequent, are_proper, has_type, have_types_at};
 use std::alloc::Global;
 
 /// Whether the term is the predicate with this term for its innermost variable.

@@ -1,5 +1,3 @@
-pub mod Views
-pub mod FormViews
 pub mod BaseSequents
 pub mod Laws
 pub mod Proper

@@ -12,7 +12,7 @@ use Rattle.ev_typing.specs.declared.typing.Signature.{Signature}
 use Rattle.ev_typing.specs.declared.typing.DataDecl.{DataDecl}
 use Rattle.ev_typing.specs.declared.typing.Con.{Con}
 use Rattle.ev_typing.specs.declared.typing.Var.{Var}
-use Rattle.ev_typing.specs.Forms.{params_from, own_types}
+use Rattle.ev_typing.specs.TypeLists.{params_from, own_types}
 use Rattle.ev_typing.specs.Profiles.{Profile}
 use Rattle.ev_typing.specs.Env.{Env, Name, Symbol, DesOf, look_up, con_symbols, symbols, datatypes, own_type, signature_profile, symbol_profile, find_data}
 use Rattle.ev_typing.specs.Typing.{IsProper, AreProper}

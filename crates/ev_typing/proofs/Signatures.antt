@@ -17,7 +17,7 @@ use Rattle.ev_typing.specs.declared.typing.Con.{Con}
 use Rattle.ev_typing.specs.declared.typing.Var.{Var}
 use Rattle.ev_typing.specs.declared.table.Row.{Row}
 use Rattle.ev_typing.specs.declared.instances.Instance.{Instance}
-use Rattle.ev_typing.specs.Forms.{params_from, own_types}
+use Rattle.ev_typing.specs.TypeLists.{params_from, own_types}
 use Rattle.ev_typing.specs.Profiles.{base_profiles, base_profile}
 use Rattle.ev_typing.specs.Table.{row_profile}
 use Rattle.ev_typing.specs.Env.{Env, Name, Symbol, ConOf, DesOf, look_up, con_symbols, symbols, declaring, find_symbol, con_profile, des_profile, symbol_profile}

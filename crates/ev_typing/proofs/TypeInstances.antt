@@ -22,7 +22,7 @@ use Rattle.ev_typing.specs.declared.typing.Signature.{Signature}
 use Rattle.ev_typing.specs.declared.typing.DataDecl.{DataDecl}
 use Rattle.ev_typing.specs.declared.typing.Con.{Con}
 use Rattle.ev_typing.specs.declared.typing.Var.{Var}
-use Rattle.ev_typing.specs.Forms.{params_from, own_types}
+use Rattle.ev_typing.specs.TypeLists.{params_from, own_types}
 use Rattle.ev_typing.specs.Profiles.{Profile, base_profiles}
 use Rattle.ev_typing.specs.Env.{Env, Name, Symbol, DesOf, look_up, con_symbols, symbols, signature_profile, symbol_profile, profile}
 use Rattle.ev_typing.specs.Typing.{AreProper, Typed, AreTyped, var_type, inside}

@@ -7,7 +7,7 @@ use Rattle.ev_terms.specs.Subst.{shift}
 use Rattle.ev_typing.specs.declared.typing.Entry.{Entry}
 use Rattle.ev_typing.specs.declared.typing.Entry.TheVariants.{Data, Constant, Direct, Recursive}
 use Rattle.ev_typing.specs.declared.typing.Sequent.{Sequent}
-use Rattle.ev_typing.specs.Forms.{types}
+use Rattle.ev_typing.specs.TypeLists.{types}
 use Rattle.ev_typing.specs.Env.{Env}
 use Rattle.ev_typing.specs.Typing.{IsSequent}
 use Rattle.ev_typing.specs.Occurs.{IsPlain}

@@ -12,7 +12,7 @@ use Rattle.ev_typing.specs.declared.typing.Signature.{Signature}
 use Rattle.ev_typing.specs.declared.typing.DataDecl.{DataDecl}
 use Rattle.ev_typing.specs.declared.typing.Con.{Con}
 use Rattle.ev_typing.specs.declared.typing.Var.{Var}
-use Rattle.ev_typing.specs.Forms.{own_types}
+use Rattle.ev_typing.specs.TypeLists.{own_types}
 use Rattle.ev_typing.specs.Profiles.{Profile, base_profile}
 
 -- the oldest entry first

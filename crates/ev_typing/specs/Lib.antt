@@ -1,7 +1,4 @@
-pub mod Base
-pub mod Forms
-pub mod Connectives
-pub mod Binders
+pub mod TypeLists
 pub mod Sequents
 pub mod BaseSequents
 pub mod Profiles

@@ -3,13 +3,14 @@ use Rattle.std.specs.Prelude.{List, [], ◌∷◌, codes}
 use Rattle.std.specs.Prelude.{None}
 use Rattle.ev_terms.specs.declared.types.Ty.{Prop, Param, Data as DataType}
 use Rattle.ev_terms.specs.declared.types.Tys.{Empty}
+use Rattle.ev_terms.specs.declared.types.Sym.TheVariants.{Base}
 use Rattle.ev_terms.specs.Types.{more}
+use Rattle.ev_terms.specs.Term.{Term, node, nil}
 use Rattle.ev_typing.specs.declared.typing.DataDecl.{DataDecl}
 use Rattle.ev_typing.specs.declared.typing.Var.{Var}
 use Rattle.ev_typing.specs.declared.typing.Entry.{Entry}
 use Rattle.ev_typing.specs.declared.typing.Entry.TheVariants.{Data, Direct}
 use Rattle.ev_typing.specs.declared.typing.Signature.{Signature}
-use Rattle.ev_typing.specs.Forms.{truth}
 use Rattle.ev_typing.specs.Env.{Env}
 
 -- head: ?0, tail: list(?0)
@@ -30,6 +31,10 @@ list_decl = record {
 -- it alone is declared
 abbrev pub list_env : Env
 list_env = Data list_decl ∷ []
+
+-- `true`
+abbrev pub truth : Term
+truth = node (Base 0) Empty nil
 
 -- top, a predicate
 abbrev pub top_signature : Signature

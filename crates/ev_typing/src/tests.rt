@@ -4,7 +4,7 @@ ghost use Rattle.ev_terms.specs.declared.types.Tys.{Empty};
 ghost use Rattle.ev_terms.specs.Types.{more};
 ghost use Rattle.ev_typing.specs.Samples.{cons_fields, list_decl, list_env};
 
-mod forms;
+mod sequents;
 
 use super::*;
 use ev_terms::{

@@ -6,7 +6,7 @@ use Rattle.std.specs.Prelude.{not, if◌then◌else◌}
 use Rattle.ev_terms.specs.Term.{Term}
 use Rattle.theory.proofs.MarkLaws.{no_mark}
 use Rattle.theory.proofs.FormulaLaws.{predicate_unique}
-use Rattle.ev_typing.specs.declared.connectives.Connective.{Connective}
+use Rattle.ev_forms.specs.declared.connectives.Connective.{Connective}
 use Rattle.theory.specs.declared.marks.Mark.{Mark}
 use Rattle.theory.specs.declared.theorems.Theorem.{Theorem}
 use Rattle.theory.specs.declared.steps.Step.{Step}

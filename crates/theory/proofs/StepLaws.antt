@@ -4,13 +4,13 @@ use Rattle.std.proofs.Math.Seq.{drop-cons}
 use Rattle.std.proofs.lemmas.List.{reverse-append}
 use Rattle.std.specs.List.{AllByRecursion}
 use Rattle.std.specs.Prelude.{IfOk, IfSome}
-use Rattle.ev_typing.specs.declared.connectives.Connective.TheVariants.{And, Or, Implies}
-use Rattle.ev_typing.specs.Connectives.{joined}
+use Rattle.ev_forms.specs.declared.connectives.Connective.TheVariants.{And, Or, Implies}
+use Rattle.ev_forms.specs.Connectives.{joined}
 use Rattle.ev_terms.specs.Term.{Term}
 use Rattle.ev_typing.specs.declared.typing.Entry.{Entry}
 use Rattle.ev_typing.specs.declared.typing.Sequent.{Sequent}
 use Rattle.ev_typing.specs.Sequents.{◌⊢◌, ◌▹◌, IsWithin}
-use Rattle.ev_typing.specs.Forms.{truth, conj, disj, imp}
+use Rattle.ev_forms.specs.Forms.{truth, conj, disj, imp}
 use Rattle.ev_kernel.specs.declared.rules.BaseRule.{BaseRule}
 use Rattle.ev_kernel.specs.declared.rules.BaseRule.TheVariants as rule
 use Rattle.ev_kernel.specs.Row.{Row}

@@ -8,12 +8,12 @@ use Rattle.ev_terms.specs.declared.types.Sym.{Sym}
 use Rattle.ev_terms.specs.Types.{type_list}
 use Rattle.ev_terms.specs.Symbols.{binds}
 use Rattle.ev_terms.specs.Term.{Term}
-use Rattle.ev_typing.specs.declared.connectives.Connective.{Connective}
-use Rattle.ev_typing.specs.declared.connectives.Connective.TheVariants.{And, Or, Implies, Iff}
+use Rattle.ev_forms.specs.declared.connectives.Connective.{Connective}
+use Rattle.ev_forms.specs.declared.connectives.Connective.TheVariants.{And, Or, Implies, Iff}
 use Rattle.ev_typing.specs.declared.typing.Sequent.{Sequent}
 use Rattle.ev_typing.specs.Env.{Env}
-use Rattle.ev_typing.specs.Forms.{truth, falsity, neg, conj, disj, imp}
-use Rattle.ev_typing.specs.Connectives.{joined}
+use Rattle.ev_forms.specs.Forms.{truth, falsity, neg, conj, disj, imp}
+use Rattle.ev_forms.specs.Connectives.{joined}
 use Rattle.ev_typing.specs.Typing.{Typed, IsPredicate, inside}
 use Rattle.ev_typing.specs.Occurs.{IsPlain}
 use Rattle.ev_typing.specs.Sequents.{◌⊢◌, ◌▹◌}

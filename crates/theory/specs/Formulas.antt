@@ -5,10 +5,10 @@ use Rattle.std.specs.List.{starts_with, take_while}
 use denote.Ref.{Bor}
 use Rattle.ev_terms.specs.Term.{Term}
 use Rattle.ev_terms.specs.Measures.{size, depth}
-use Rattle.ev_typing.specs.Forms.{truth, falsity, neg}
-use Rattle.ev_typing.specs.Connectives.{joined}
-use Rattle.ev_typing.specs.declared.connectives.Connective.{Connective}
-use Rattle.ev_typing.specs.declared.connectives.Connective.TheVariants as connective
+use Rattle.ev_forms.specs.Forms.{truth, falsity, neg}
+use Rattle.ev_forms.specs.Connectives.{joined}
+use Rattle.ev_forms.specs.declared.connectives.Connective.{Connective}
+use Rattle.ev_forms.specs.declared.connectives.Connective.TheVariants as connective
 use Rattle.theory.specs.declared.marks.Mark.{Mark}
 use Rattle.theory.specs.declared.marks.Mark.TheVariants.{True, False, Not, And, Or, Implies, Iff, Open, Close}
 use Rattle.theory.specs.Words.{are_blanks, begins_word, is_word_char, skip_blanks}

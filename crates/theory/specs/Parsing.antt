@@ -2,8 +2,8 @@
 use Rattle.std.specs.Prelude.{◌≡◌, ◌≢◌, ◌<◌, ◌≤◌, ◌⊎◌, ℕ, List, ◌∷◌, Option, Some, None, drop, length}
 use Rattle.ev_terms.specs.Term.{Term}
 use Rattle.ev_terms.specs.Measures.{depth}
-use Rattle.ev_typing.specs.Connectives.{joined}
-use Rattle.ev_typing.specs.declared.connectives.Connective.{Connective}
+use Rattle.ev_forms.specs.Connectives.{joined}
+use Rattle.ev_forms.specs.declared.connectives.Connective.{Connective}
 use Rattle.theory.specs.declared.marks.Mark.{Mark}
 use Rattle.theory.specs.declared.formulas.Want.{Want}
 use Rattle.theory.specs.declared.formulas.Want.TheVariants as want

@@ -1,16 +1,16 @@
 ghost use Rattle.std.specs.Prelude.{◌≡◌, ◌≢◌, ◌+◌, ◌<◌, ◌≤◌, ℕ, List, [], ◌∷◌, drop, length, IfNone, IfOk, IfSome, IsTrue, false};
 ghost use Rattle.ev_terms.specs.Term.{Term};
 ghost use Rattle.ev_terms.specs.Measures.{size, depth};
-ghost use Rattle.ev_typing.specs.Connectives.{joined};
-ghost use Rattle.ev_typing.specs.declared.connectives.Connective.{Connective};
+ghost use Rattle.ev_forms.specs.Connectives.{joined};
+ghost use Rattle.ev_forms.specs.declared.connectives.Connective.{Connective};
 ghost use Rattle.theory.specs.declared.marks.Mark.{Mark};
 ghost use Rattle.theory.specs.declared.marks.Mark.TheVariants.{Open};
 ghost use Rattle.theory.specs.Formulas.{mark_of, IsChained, IsSingle, Chain, Literal, IsFormula};
 ghost use Rattle.theory.specs.Parsing.{StopsBefore, EndsConjunction, Reads, ExtendsToConjunction, ExtendsToPredicate, Extends, Gives};
 
 use crate::marks::{Mark, marks_of};
+use ev_forms::{Connective, make_falsity, make_joined, make_negation, make_truth};
 use ev_terms::{NoMemory, Tree, extent};
-use ev_typing::{Connective, make_falsity, make_joined, make_negation, make_truth};
 use std::alloc::Global;
 
 /// How deep a formula may be nested, and how many nodes it may have.

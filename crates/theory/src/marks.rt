@@ -5,8 +5,8 @@ ghost use Rattle.theory.specs.declared.marks.Mark.{Mark};
 ghost use Rattle.theory.specs.Formulas.{word_mark, sign_front, mark_front, front_of, AreMarks};
 
 use crate::words::{begins_word, is_word_char, same_text, skip_blanks};
+use ev_forms::Connective;
 use ev_terms::NoMemory;
-use ev_typing::Connective;
 use std::alloc::Global;
 
 /// The signs and words of propositional formulas.

@@ -6,10 +6,11 @@ ghost use Rattle.ev_kernel.specs.Row.{Row};
 ghost use Rattle.theory.specs.Steps.{ReadsUp, Advances, Applies, Replays, depth_limit, outcome_with, size_limit};
 
 use crate::steps::{Applied, Outcome, Step};
+use ev_forms::{Connective, joined_parts};
 use ev_kernel::{BaseRule, concludes};
 use ev_outside::Steps as Counter;
 use ev_terms::{NoMemory, Tree, TryCopy};
-use ev_typing::{Connective, Env, Sequent, Sequents, joined_parts, sequent_extent};
+use ev_typing::{Env, Sequent, Sequents, sequent_extent};
 use std::alloc::Global;
 use std::sync::ledger::Ledger;
 

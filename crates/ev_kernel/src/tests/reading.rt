@@ -2,11 +2,12 @@
 //! `i b p` are INT, BOOL and the parameter 0. In the formulas they choose the type of the next symbols `= : A E S`, which are `=`,
 //! `:`, `!`, `#` and the set former. `T F t` are `true`, `false` and `TRUE`, `~ & | > -` are `not`, `&`, `or`, `=>` and `<=>`, `n` is
 //! `bool`, `+` and `m` are `+` and unary `-`, a digit is that variable and `z y` are the literals 0 and 1.
-use ev_terms::{NoMemory, Sym, Tree, Trees, Ty, Tys, make_lit, make_node, make_var};
-use ev_typing::{
-    Binder, Connective, Relation, Sequent, Sequents, make_bool, make_bound, make_falsity,
-    make_joined, make_negation, make_related, make_true_value, make_truth,
+use ev_forms::{
+    Binder, Connective, Relation, make_bool, make_bound, make_falsity, make_joined, make_negation,
+    make_related, make_true_value, make_truth,
 };
+use ev_terms::{NoMemory, Sym, Tree, Trees, Ty, Tys, make_lit, make_node, make_var};
+use ev_typing::{Sequent, Sequents};
 use std::alloc::Global;
 
 /// What was read of a sequent.

@@ -1,4 +1,4 @@
-use Rattle.ev_typing.specs.Binders.{equated}
+use Rattle.ev_forms.specs.Binders.{equated}
 use Rattle.ev_kernel.specs.Derivable.{named}
 use Rattle.ev_kernel.proofs.Equations.{congruent}
 use Rattle.ev_kernel.proofs.equality.by_congruence.Goals as goal

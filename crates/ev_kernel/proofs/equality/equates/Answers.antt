@@ -1,5 +1,5 @@
 use Rattle.std.specs.Option.{option_copied}
-use Rattle.ev_typing.specs.Binders.{equated}
+use Rattle.ev_forms.specs.Binders.{equated}
 use Rattle.ev_typing.specs.BaseSequents.{widened}
 use Rattle.ev_kernel.specs.Contexts.{optional}
 use Rattle.ev_kernel.proofs.Equations.{apart}

@@ -1,4 +1,4 @@
-use Rattle.ev_typing.specs.Forms.{bool_of, bool_true}
+use Rattle.ev_forms.specs.Forms.{bool_of, bool_true}
 use Rattle.ev_kernel.proofs.Equations.{apart}
 use Rattle.ev_kernel.proofs.Binding.{other_type}
 use Rattle.ev_kernel.proofs.equality.is_truth_of.Goals as goal

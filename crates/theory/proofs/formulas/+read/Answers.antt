@@ -4,9 +4,9 @@ use Rattle.std.specs.Prelude.{IfOk}
 use Rattle.ev_terms.specs.Term.{Term}
 use Rattle.ev_terms.specs.Measures.{depth}
 use Rattle.ev_terms.specs.declared.tree.Tree.{Tree}
-use Rattle.ev_typing.specs.Connectives.{joined}
-use Rattle.ev_typing.specs.Forms.{neg}
-use Rattle.ev_typing.specs.declared.connectives.Connective.{Connective}
+use Rattle.ev_forms.specs.Connectives.{joined}
+use Rattle.ev_forms.specs.Forms.{neg}
+use Rattle.ev_forms.specs.declared.connectives.Connective.{Connective}
 use Rattle.theory.specs.declared.marks.Mark.{Mark}
 use Rattle.theory.specs.declared.marks.Mark.TheVariants.{Open, Close}
 use Rattle.theory.specs.declared.formulas.Found.{Found}

@@ -6,9 +6,9 @@ ghost use Rattle.ev_terms.specs.declared.types.Sym.{Sym};
 ghost use Rattle.ev_terms.specs.declared.types.Sym.TheVariants.{Base};
 ghost use Rattle.ev_terms.specs.declared.types.Ty.{Ty, Prop};
 ghost use Rattle.ev_terms.specs.declared.types.Tys.{Tys, Empty};
-ghost use Rattle.ev_typing.specs.Base.{at_type};
-ghost use Rattle.ev_typing.specs.Forms.{neg, bool_of, bool_true, equation};
-ghost use Rattle.ev_typing.specs.Binders.{bound, related, equated};
+ghost use Rattle.ev_forms.specs.Base.{at_type};
+ghost use Rattle.ev_forms.specs.Forms.{neg, bool_of, bool_true, equation};
+ghost use Rattle.ev_forms.specs.Binders.{bound, related, equated};
 
 use crate::connectives::{Connective, base_parts, is_leaf, joined_parts, pair_of};
 use ev_terms::{NoMemory, Shared, Sym, Tree, Trees, Ty, Tys, make_node};
@@ -56,7 +56,7 @@ fn row_of_relation(relation: Relation) -> u16
 }
 
 /// One type argument.
-#[tactic(auto, using(crate::proofs::Signatures::forms))]
+#[tactic(auto, using(crate::proofs::FormViews::one_type))]
 fn make_at_type(alloc: Global, ty: Ty) -> Result<Tys, NoMemory>
     ensures { IfOk result (λ As. As ≡ at_type ty) }
 {

@@ -1,6 +1,6 @@
-use Rattle.ev_typing.specs.Binders.{bound}
-use Rattle.ev_typing.proofs.FormViews.{if_none, not_bound}
-use Rattle.ev_typing.proofs.forms.bound_parts.Goals as goal
+use Rattle.ev_forms.specs.Binders.{bound}
+use Rattle.ev_forms.proofs.FormViews.{if_none, not_bound}
+use Rattle.ev_forms.proofs.forms.bound_parts.Goals as goal
 
 pub returns-in_err-body-clause-none : goal.returns-in_err-body-clause-none
 returns-in_err-body-clause-none c =

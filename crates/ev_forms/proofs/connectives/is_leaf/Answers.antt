@@ -2,8 +2,8 @@ use Rattle.std.proofs.Common.{◌≡◌, ap, ◌∙◌}
 use Rattle.ev_terms.specs.Term.{node, terms}
 use Rattle.ev_terms.specs.declared.types.Sym.TheVariants.{Base}
 use Rattle.ev_terms.specs.declared.types.Tys.{Empty}
-use Rattle.ev_typing.proofs.Views.{leaf_true, leaf_only}
-use Rattle.ev_typing.proofs.connectives.is_leaf.Goals as goal
+use Rattle.ev_forms.proofs.Views.{leaf_true, leaf_only}
+use Rattle.ev_forms.proofs.connectives.is_leaf.Goals as goal
 
 pub returns-else-found-row : goal.returns-else-found-row
 returns-else-found-row c =

@@ -2,9 +2,9 @@ use Rattle.std.proofs.Common.{◌≡◌, ap, ◌∙◌}
 use Rattle.ev_terms.specs.Term.{node, terms}
 use Rattle.ev_terms.specs.declared.types.Sym.TheVariants.{Base}
 use Rattle.ev_terms.specs.declared.types.Tys.{Empty}
-use Rattle.ev_typing.proofs.Views.{none_weaker}
-use Rattle.ev_typing.proofs.FormViews.{not_one}
-use Rattle.ev_typing.proofs.forms.only_child.Goals as goal
+use Rattle.ev_forms.proofs.Views.{none_weaker}
+use Rattle.ev_forms.proofs.FormViews.{not_one}
+use Rattle.ev_forms.proofs.forms.only_child.Goals as goal
 
 pub returns-clause-none : goal.returns-clause-none
 returns-clause-none c =

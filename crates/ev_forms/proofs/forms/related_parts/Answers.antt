@@ -1,6 +1,6 @@
-use Rattle.ev_typing.specs.Binders.{related}
-use Rattle.ev_typing.proofs.FormViews.{if_none, not_related}
-use Rattle.ev_typing.proofs.forms.related_parts.Goals as goal
+use Rattle.ev_forms.specs.Binders.{related}
+use Rattle.ev_forms.proofs.FormViews.{if_none, not_related}
+use Rattle.ev_forms.proofs.forms.related_parts.Goals as goal
 
 pub returns-in_err-left-clause-none : goal.returns-in_err-left-clause-none
 returns-in_err-left-clause-none c =

@@ -2,8 +2,8 @@ ghost use Rattle.std.specs.Prelude.{◌≡◌, ◌≢◌, ◌↔◌, ℕ, [], �
 ghost use Rattle.ev_terms.specs.Term.{Term, Terms, node, nil, cons, terms};
 ghost use Rattle.ev_terms.specs.declared.types.Sym.TheVariants.{Base};
 ghost use Rattle.ev_terms.specs.declared.types.Tys.{Empty};
-ghost use Rattle.ev_typing.specs.Forms.{truth, falsity, neg};
-ghost use Rattle.ev_typing.specs.Connectives.{joined};
+ghost use Rattle.ev_forms.specs.Forms.{truth, falsity, neg};
+ghost use Rattle.ev_forms.specs.Connectives.{joined};
 
 use ev_terms::{NoMemory, Sym, Tree, Trees, Tys, make_node};
 use std::alloc::Global;

@@ -3,11 +3,11 @@ use Rattle.ev_terms.specs.declared.types.Ty.{Ty, Prop}
 use Rattle.ev_terms.specs.declared.types.Tys.{Tys, Empty}
 use Rattle.ev_terms.specs.Types.{more}
 use Rattle.ev_terms.specs.Term.{Term}
-use Rattle.ev_typing.specs.declared.forms.Binder.{Binder}
-use Rattle.ev_typing.specs.declared.forms.Binder.TheVariants.{ForAll, ForSome, SetOf}
-use Rattle.ev_typing.specs.declared.forms.Relation.{Relation}
-use Rattle.ev_typing.specs.declared.forms.Relation.TheVariants.{Equal, In}
-use Rattle.ev_typing.specs.Forms.{forall, exists, such_that, eq, mem}
+use Rattle.ev_forms.specs.declared.forms.Binder.{Binder}
+use Rattle.ev_forms.specs.declared.forms.Binder.TheVariants.{ForAll, ForSome, SetOf}
+use Rattle.ev_forms.specs.declared.forms.Relation.{Relation}
+use Rattle.ev_forms.specs.declared.forms.Relation.TheVariants.{Equal, In}
+use Rattle.ev_forms.specs.Forms.{forall, exists, such_that, eq, mem}
 
 -- the predicate under the binder, whose variable has the type
 abbrev pub bound : Binder → Ty → Term → Term

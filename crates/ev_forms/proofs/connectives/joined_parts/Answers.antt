@@ -2,8 +2,8 @@ use Rattle.std.proofs.Common.{ap, sym, ◌∙◌}
 use Rattle.ev_terms.specs.Term.{node, cons, nil}
 use Rattle.ev_terms.specs.declared.types.Sym.TheVariants.{Base}
 use Rattle.ev_terms.specs.declared.types.Tys.{Empty}
-use Rattle.ev_typing.proofs.Views.{not_two, none_weaker}
-use Rattle.ev_typing.proofs.connectives.joined_parts.Goals as goal
+use Rattle.ev_forms.proofs.Views.{not_two, none_weaker}
+use Rattle.ev_forms.proofs.connectives.joined_parts.Goals as goal
 
 pub returns-clause-none : goal.returns-clause-none
 returns-clause-none c =

@@ -9,10 +9,10 @@ use Rattle.ev_terms.specs.declared.types.Sym.TheVariants.{Base, User}
 use Rattle.ev_terms.specs.Types.{pow, prod, more, type_list, More-more}
 use Rattle.ev_terms.specs.Term.{Term, Terms, var, lit, node, nil, cons, terms, term_list, sym_of, types_of, children, terms-term_list, term_list-terms}
 use Rattle.ev_terms.proofs.TypeSteps.{type_list-More}
-use Rattle.ev_typing.specs.Base.{at_type}
-use Rattle.ev_typing.specs.Forms.{equation, iff, eq}
-use Rattle.ev_typing.specs.Binders.{equated}
-use Rattle.ev_typing.proofs.Views.{node_by_views}
+use Rattle.ev_forms.specs.Base.{at_type}
+use Rattle.ev_forms.specs.Forms.{equation, iff, eq}
+use Rattle.ev_forms.specs.Binders.{equated}
+use Rattle.ev_forms.proofs.Views.{node_by_views}
 
 pub no_symbol : (t : Term) (s : Sym) (As : Tys) (ts : Terms) → None ≡ sym_of t → t ≢ node s As ts
 no_symbol t s As ts h e = cc

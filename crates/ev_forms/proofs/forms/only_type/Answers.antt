@@ -1,7 +1,7 @@
 use Rattle.std.proofs.Common.{ap, sym, ◌∙◌}
 use Rattle.ev_terms.specs.declared.types.Tys.TheVariants.{More}
-use Rattle.ev_typing.proofs.FormViews.{more_than_one}
-use Rattle.ev_typing.proofs.forms.only_type.Goals as goal
+use Rattle.ev_forms.proofs.FormViews.{more_than_one}
+use Rattle.ev_forms.proofs.forms.only_type.Goals as goal
 
 pub returns-in-More-get-clause-none : goal.returns-in-More-get-clause-none
 returns-in-More-get-clause-none c =

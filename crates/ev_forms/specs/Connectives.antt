@@ -1,8 +1,8 @@
 -- The connectives that join two predicates.
 use Rattle.ev_terms.specs.Term.{Term}
-use Rattle.ev_typing.specs.declared.connectives.Connective.{Connective}
-use Rattle.ev_typing.specs.declared.connectives.Connective.TheVariants.{And, Or, Implies, Iff}
-use Rattle.ev_typing.specs.Forms.{conj, disj, imp, iff}
+use Rattle.ev_forms.specs.declared.connectives.Connective.{Connective}
+use Rattle.ev_forms.specs.declared.connectives.Connective.TheVariants.{And, Or, Implies, Iff}
+use Rattle.ev_forms.specs.Forms.{conj, disj, imp, iff}
 
 -- the two predicates with the connective between them
 abbrev pub joined : Connective → Term → Term → Term

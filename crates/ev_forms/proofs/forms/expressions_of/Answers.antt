@@ -1,7 +1,7 @@
 use Rattle.std.proofs.Common.{ap, sym, ◌∙◌, true≢false}
-use Rattle.ev_typing.specs.Forms.{eq}
-use Rattle.ev_typing.proofs.FormViews.{eq_prop, eq_sides, no_eq}
-use Rattle.ev_typing.proofs.forms.expressions_of.Goals as goal
+use Rattle.ev_forms.specs.Forms.{eq}
+use Rattle.ev_forms.proofs.FormViews.{eq_prop, eq_sides, no_eq}
+use Rattle.ev_forms.proofs.forms.expressions_of.Goals as goal
 
 pub returns-then-is_prop-clause-none : goal.returns-then-is_prop-clause-none
 returns-then-is_prop-clause-none c =

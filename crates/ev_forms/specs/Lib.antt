@@ -1,0 +1,4 @@
+pub mod Base
+pub mod Forms
+pub mod Connectives
+pub mod Binders
