@@ -7,7 +7,7 @@ use Rattle.ev_terms.specs.declared.types.Tys.TheVariants.{More}
 use Rattle.ev_terms.specs.declared.types.Sym.{Sym}
 use Rattle.ev_terms.specs.declared.types.Sym.TheVariants.{Base, User}
 use Rattle.ev_terms.specs.Types.{pow, prod, more, type_list, More-more}
-use Rattle.ev_terms.specs.Term.{Term, Terms, var, lit, node, nil, cons, terms, term_list, sym_of, types_of, children, terms-term_list, term_list-terms}
+use Rattle.ev_terms.specs.Term.{Term, Terms, node, nil, cons, terms, term_list, sym_of, types_of, term_list-terms}
 use Rattle.ev_terms.proofs.TypeSteps.{type_list-More}
 use Rattle.ev_forms.specs.Base.{at_type}
 use Rattle.ev_forms.specs.Forms.{equation, iff, eq}

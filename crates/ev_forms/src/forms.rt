@@ -1,6 +1,6 @@
 //! Terms at base symbols with type arguments: quantifiers, the set former, equality, membership, truth values. Source: Métayer and
 //! Voisin, The Event-B Mathematical Language.
-ghost use Rattle.std.specs.Prelude.{◌≡◌, ◌≢◌, ◌↔◌, ℕ, Some, [], ◌∷◌, IsTrue, IfOk, IfSome, IfNone};
+ghost use Rattle.std.specs.Prelude.{◌≡◌, ◌≢◌, ◌↔◌, Some, [], ◌∷◌, IsTrue, IfOk, IfSome, IfNone};
 ghost use Rattle.ev_terms.specs.Term.{Term, Terms, node, nil, cons, terms, types_of};
 ghost use Rattle.ev_terms.specs.declared.types.Sym.{Sym};
 ghost use Rattle.ev_terms.specs.declared.types.Sym.TheVariants.{Base};

@@ -1,5 +1,5 @@
 -- The rows of the quantifiers and of sets.
-use Rattle.std.specs.Prelude.{◌≡◌, ◌↔◌, Bool as Boolean, true, false, List, [], ◌∷◌, map, Result, IsTrue, IfOk, refl}
+use Rattle.std.specs.Prelude.{◌≡◌, ◌↔◌, Bool as Boolean, false, List, [], ◌∷◌, map, Result, IsTrue, IfOk, refl}
 use Rattle.std.proofs.Common.{ap, sym, ◌∙◌, subst as transport}
 use Rattle.std.proofs.lemmas.Result.{IfOk-weaker}
 use Rattle.ev_terms.specs.declared.types.Ty.{Ty, Bool as BOOL}
@@ -16,7 +16,7 @@ use Rattle.ev_typing.specs.Typing.{Typed, AreTyped, AreProper}
 use Rattle.ev_typing.specs.Sequents.{◌⊢◌, ◌▹◌}
 use Rattle.ev_typing.specs.BaseSequents.{under}
 use Rattle.ev_kernel.specs.declared.rules.BaseRule.TheVariants.{Inst, AllI, AllE, ExI, ExE}
-use Rattle.ev_kernel.specs.Row.{Row, Fits, IsInstanceOf}
+use Rattle.ev_kernel.specs.Row.{Row, IsInstanceOf}
 use Rattle.ev_kernel.proofs.Equations.{refused}
 
 one_type : (A B : Ty) → at_type A ≡ at_type B → A ≡ B

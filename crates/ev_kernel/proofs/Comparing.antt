@@ -1,5 +1,5 @@
 -- What the walks that compare a term with a shift or a substitution of another need.
-use Rattle.std.specs.Prelude.{◌≡◌, ◌≢◌, ◌↔◌, ◌==◌, ◌+◌, ◌-◌, ◌<◌, ◌≤◌, ℕ, Bool as Boolean, true, false, List, [], ◌∷◌, Option, Some, None, length, map, reverse, get_or, IsTrue, refl}
+use Rattle.std.specs.Prelude.{◌≡◌, ◌≢◌, ◌↔◌, ◌==◌, ◌+◌, ◌-◌, ◌<◌, ◌≤◌, ℕ, Bool as Boolean, false, List, Some, None, length, map, reverse, get_or, IsTrue, refl}
 use Rattle.std.proofs.Common.{ap, sym, ◌∙◌, subst as transport, true≢false, arith}
 use Rattle.std.proofs.lemmas.Bool.{eqb-true, eq-eqb}
 use Rattle.std.proofs.lemmas.List.{get_or-reverse, length-reverse}
@@ -8,7 +8,7 @@ use Rattle.ev_terms.specs.declared.types.Sym.{Sym}
 use Rattle.ev_terms.specs.Term.{Term, Terms, var, lit, node, terms, terms_one, sym_of, var_of}
 use Rattle.ev_terms.specs.Symbols.{binds}
 use Rattle.ev_terms.specs.Measures.{loose, depth, depths}
-use Rattle.ev_terms.specs.Subst.{shift_var, shift, inst, lifts, entry, fill, subst}
+use Rattle.ev_terms.specs.Subst.{shift, inst, lifts, entry}
 use Rattle.ev_terms.proofs.Children.{depth_at}
 use Rattle.ev_terms.proofs.Laws.{lifts-past, entry-get, entry-past}
 use Rattle.ev_terms.proofs.ListLaws.{shift_closed, inst_closed}

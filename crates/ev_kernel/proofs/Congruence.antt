@@ -1,7 +1,7 @@
 -- What the walk over the children of two terms with one symbol needs.
 use Rattle.std.specs.Prelude.{◌≡◌, ◌≢◌, ◌↔◌, ◌+◌, ◌<◌, ◌≤◌, ℕ, zero, suc, Bool as Boolean, true, false, List, [], ◌∷◌, ◌++◌, Option, Some, None, length, drop, get_or, map, take, IsTrue, refl}
 use Rattle.std.specs.List.{AllByRecursion}
-use Rattle.std.proofs.Common.{ap, sym, ◌∙◌, subst as transport, true≢false, arith}
+use Rattle.std.proofs.Common.{ap, sym, ◌∙◌, subst as transport, arith}
 use Rattle.ev_terms.specs.declared.types.Ty.{Ty}
 use Rattle.ev_terms.specs.declared.types.Tys.{Tys}
 use Rattle.ev_terms.specs.declared.types.Sym.{Sym}

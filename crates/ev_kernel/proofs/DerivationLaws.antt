@@ -1,12 +1,10 @@
 -- The laws of derivations.
-use Rattle.std.specs.Prelude.{◌≡◌, ◌+◌, ◌<◌, ◌≤◌, ◌++◌, ℕ, zero, suc, List, [], ◌∷◌, Option, Some, None, slice_get, length, map, refl}
+use Rattle.std.specs.Prelude.{◌≡◌, ◌+◌, ◌++◌, ℕ, zero, suc, List, [], ◌∷◌, Some, slice_get, length, map, refl}
 use Rattle.std.proofs.Common.{ap, sym, ◌∙◌, subst as transport, append_assoc, arith}
 use Rattle.std.specs.List.{AllByRecursion, AllZip}
-use Rattle.ev_terms.specs.declared.types.Tys.{Tys}
 use Rattle.ev_terms.specs.Types.{type_list}
 use Rattle.ev_typing.specs.declared.typing.Sequent.{Sequent}
 use Rattle.ev_typing.specs.Env.{Env}
-use Rattle.ev_typing.specs.Typing.{Typed, AreTyped, AreProper}
 use Rattle.ev_typing.specs.Parts.{IsPartOf, HasDistinctNames}
 use Rattle.ev_typing.specs.BaseSequents.{IsBaseSequent}
 use Rattle.ev_typing.proofs.Wholes.{HasAll, whole_has_all, all_proper_over, typed_over, all_typed_over}
@@ -14,7 +12,7 @@ use Rattle.ev_typing.proofs.BaseSequents.{whole_base_sequents}
 use Rattle.ev_kernel.specs.declared.rules.BaseRule.{BaseRule}
 use Rattle.ev_kernel.specs.declared.rules.BaseRule.TheVariants.{Hyp, Weak, Cut, Inst, TrueI, FalseE, NotI, NotE, AndI, AndE1, AndE2, OrI1, OrI2, OrE, ImpI, ImpE, IffI, IffE1, IffE2, AllI, AllE, ExI, ExE, Em, Refl, Sym as Symmetry, Trans, Cong, SetMem, BoolMem}
 use Rattle.ev_kernel.specs.declared.rules.Line.{Line}
-use Rattle.ev_kernel.specs.Row.{Row, IsInstanceOf}
+use Rattle.ev_kernel.specs.Row.{Row}
 use Rattle.ev_kernel.specs.Derivable.{Follows, Derivable, AreDerivable, derived, none, more, numbered, IsSequentAt, LineFollows, IsDerivationAfter, IsDerivation, LinesAreDerivable, DerivableHasDerivation, WholeKeepsDerivable}
 
 -- Each line of a derivation has a derivable sequent.

@@ -1,17 +1,17 @@
 -- Equations and the rows that speak of them.
-use Rattle.std.specs.Prelude.{◌≡◌, ◌↔◌, Bool as Boolean, true, false, List, [], ◌∷◌, Option, Some, None, IsTrue, refl}
+use Rattle.std.specs.Prelude.{◌≡◌, ◌↔◌, Bool as Boolean, false, List, [], ◌∷◌, Some, IsTrue, refl}
 use Rattle.std.proofs.Common.{ap, sym, ◌∙◌, subst as transport, true≢false}
 use Rattle.ev_terms.specs.declared.types.Ty.{Ty, Int, Bool, Prop, Param, Data}
 use Rattle.ev_terms.specs.declared.types.Tys.{Tys}
 use Rattle.ev_terms.specs.Types.{pow, prod}
-use Rattle.ev_terms.specs.Term.{Term, Terms, node, types_of, children}
+use Rattle.ev_terms.specs.Term.{Term, types_of, children}
 use Rattle.ev_typing.specs.declared.typing.Sequent.{Sequent}
 use Rattle.ev_forms.specs.Forms.{equation}
 use Rattle.ev_forms.specs.Binders.{equated}
 use Rattle.ev_typing.specs.Sequents.{◌⊢◌}
 use Rattle.ev_forms.proofs.FormViews.{equated_at}
 use Rattle.ev_kernel.specs.declared.rules.BaseRule.TheVariants.{Refl, Sym as Symmetry, Trans, Cong}
-use Rattle.ev_kernel.specs.Row.{Row, Fits, AreCongruent}
+use Rattle.ev_kernel.specs.Row.{Row, AreCongruent}
 
 -- a test that fails
 pub apart : {P : Type 0} (b : Boolean) → (IsTrue b ↔ P) → b ≡ false → ¬ P

@@ -1,6 +1,7 @@
 -- Lists of types and of terms that are compared.
-use Rattle.std.specs.Prelude.{◌↔◌, Bool as Boolean, true, false, Option, IsTrue, slice_get}
-use Rattle.std.proofs.Common.{◌≡◌, ℕ, zero, suc, ◌+◌, ◌<◌, ◌≤◌, refl, List, [], ◌∷◌, ◌++◌, length, take, map, get_or, ap, sym, ◌∙◌, arith, add-one}
+use Rattle.std.specs.Prelude.{◌↔◌, Bool as Boolean, false, Option, IsTrue, slice_get}
+use Rattle.std.proofs.Common.{◌≡◌, ℕ, zero, suc, ◌+◌, ◌<◌, ◌≤◌, refl, List, [], ◌∷◌, ◌++◌, length, take, map, get_or, ap, sym, ◌∙◌, subst as transport, arith, add-one}
+use Rattle.std.specs.List.{AllByRecursion}
 use Rattle.ev_terms.specs.declared.types.Ty.{Ty}
 use Rattle.ev_terms.specs.declared.types.Tys.{Tys, Empty}
 use Rattle.ev_terms.specs.declared.types.Tys.TheVariants.{More}
@@ -9,6 +10,7 @@ use Rattle.ev_terms.proofs.TypeSteps.{type_list-More}
 use Rattle.ev_terms.proofs.Children.{drop_at, drop_all}
 use Rattle.ev_typing.specs.TypeLists.{types}
 use Rattle.ev_typing.proofs.Laws.{types-type_list}
+use Rattle.ev_typing.proofs.Names.{all_append}
 use Rattle.ev_kernel.specs.Contexts.{optional}
 use Rattle.ev_kernel.proofs.Equations.{refused}
 
@@ -89,3 +91,8 @@ first_type As n o h l e = let p : n ≡ 1 = omega (arith, h) in ap optional e �
     first : (Bs : List Ty) → optional (slice_get Bs 0) ≡ take 1 Bs
     first [] = refl
     first (B ∷ Bs) = refl
+
+-- one more number within the count
+pub one_more_number : (ns new : List ℕ) (n count : ℕ) → AllByRecursion (λ k. (1 ≤ k) × (k ≤ count)) ns → new ≡ ns ++ n ∷ [] → 1 ≤ n → n ≤ count → AllByRecursion (λ k. (1 ≤ k) × (k ≤ count)) new
+one_more_number ns new n count h e l m =
+    transport (AllByRecursion (λ k. (1 ≤ k) × (k ≤ count))) (sym e) (all_append (λ k. (1 ≤ k) × (k ≤ count)) ns (n ∷ []) h ((l, m), tt))

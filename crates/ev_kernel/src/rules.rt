@@ -1,4 +1,4 @@
-ghost use Rattle.std.specs.Prelude.{◌≡◌, ◌≢◌, ◌↔◌, ◌≤◌, List, [], ◌∷◌, IsTrue, IfOk, length};
+ghost use Rattle.std.specs.Prelude.{◌≢◌, ◌↔◌, ◌≤◌, List, [], ◌∷◌, IsTrue, IfOk, length};
 ghost use Rattle.std.specs.List.{AllByRecursion};
 ghost use Rattle.ev_terms.specs.declared.types.Tys.{Tys};
 ghost use Rattle.ev_terms.specs.Term.{Term};

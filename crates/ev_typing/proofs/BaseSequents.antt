@@ -1,11 +1,9 @@
 -- Sequents without direct operators.
-use Rattle.std.specs.Prelude.{◌≡◌, ◌||◌, ◌<◌, ◌≤◌, ◌+◌, ℕ, Bool as Boolean, true, false, cond, List, [], ◌∷◌, ◌++◌, Option, Some, None, length, drop, get_or, flat_map, map, bytes_eq, option_map, find, ◌↔◌, IsTrue, IsFalse, IsSomeAnd, refl}
+use Rattle.std.specs.Prelude.{◌≡◌, ◌||◌, ◌<◌, ◌≤◌, ◌+◌, ℕ, Bool as Boolean, true, false, cond, List, [], ◌∷◌, Option, Some, None, length, drop, get_or, flat_map, map, bytes_eq, option_map, ◌↔◌, IsTrue, IsFalse, IsSomeAnd, refl}
 use Rattle.std.specs.Option.{option_and_then}
-use Rattle.std.specs.List.{AllByRecursion, list_any, enumerate_from}
-use Rattle.std.proofs.Common.{ap, sym, ◌∙◌, subst, true≢false, arith, ⊎_elim}
-use Rattle.std.proofs.lemmas.Bool.{cases_Bool}
+use Rattle.std.specs.List.{AllByRecursion, enumerate_from}
+use Rattle.std.proofs.Common.{ap, sym, ◌∙◌, subst, true≢false}
 use Rattle.ev_terms.specs.declared.types.Ty.{Ty, Prop}
-use Rattle.ev_terms.specs.declared.types.Tys.{Tys}
 use Rattle.ev_terms.specs.declared.types.Sym.{Sym}
 use Rattle.ev_terms.specs.declared.types.Sym.TheVariants.{Base, User}
 use Rattle.ev_terms.specs.Types.{type_list}
@@ -14,21 +12,20 @@ use Rattle.ev_terms.specs.Subst.{type_inst, type_at}
 use Rattle.ev_terms.proofs.Children.{depth_at}
 use Rattle.ev_typing.specs.declared.typing.Entry.{Entry}
 use Rattle.ev_typing.specs.declared.typing.Entry.TheVariants.{Data, Constant, Direct, Recursive}
-use Rattle.ev_typing.specs.declared.typing.Sequent.{Sequent}
 use Rattle.ev_typing.specs.declared.typing.DataDecl.{DataDecl}
 use Rattle.ev_typing.specs.declared.typing.Con.{Con}
 use Rattle.ev_typing.specs.declared.typing.Var.{Var}
 use Rattle.ev_typing.specs.Profiles.{Profile}
-use Rattle.ev_typing.specs.Env.{Env, Name, Symbol, ConOf, DesOf, ConstantOf, DirectOf, RecursiveOf, look_up, names, declares, declaring, symbols, con_symbols, find_symbol, symbol_profile, profile}
-use Rattle.ev_typing.specs.Typing.{Typed, AreTyped, IsTypedNode, IsPredicate, IsSequent, inside}
+use Rattle.ev_typing.specs.Env.{Env, Name, Symbol, DesOf, ConstantOf, DirectOf, RecursiveOf, look_up, declares, declaring, symbols, con_symbols, find_symbol, symbol_profile, profile}
+use Rattle.ev_typing.specs.Typing.{Typed, AreTyped, IsTypedNode, IsPredicate, inside}
 use Rattle.ev_typing.specs.Occurs.{is_direct_symbol, is_direct, IsPlain, ArePlain}
 use Rattle.ev_typing.specs.WellFormed.{IsWellFormed}
 use Rattle.ev_typing.specs.Parts.{IsPartOf, HasDistinctNames}
-use Rattle.ev_typing.specs.BaseSequents.{is_direct_entry, IsBaseSequent, WholeKeepsBaseSequents}
+use Rattle.ev_typing.specs.BaseSequents.{is_direct_entry, WholeKeepsBaseSequents}
 use Rattle.ev_typing.proofs.Names.{same_name, name_same, all_append, drop_at, drop_all}
 use Rattle.ev_typing.proofs.Entries.{symbols_named, find_symbol-declaring}
 use Rattle.ev_typing.proofs.Checks.{inner_depth}
-use Rattle.ev_typing.proofs.Wholes.{HasAll, whole_has_all, all_proper_over, typed_over, found_part}
+use Rattle.ev_typing.proofs.Wholes.{whole_has_all, all_proper_over, typed_over, found_part}
 
 -- A direct operator is declared by such an entry.
 declared_entry : (env : Env) (n : Name) (e : Entry) → declaring env n ≡ Some e → declares n e ≡ true

@@ -1,13 +1,17 @@
 -- The datatype of lists may be declared, and so may the direct operator.
-use Rattle.std.specs.Prelude.{◌≡◌, [], refl}
+use Rattle.std.specs.Prelude.{◌≡◌, [], None, codes, refl}
 use Rattle.std.specs.List.{IsDistinct}
-use Rattle.std.proofs.Common.{arith, subst, sym}
+use Rattle.std.proofs.Common.{arith, subst, sym, ap, ◌∙◌}
+use Rattle.ev_terms.specs.declared.types.Ty.{Prop}
+use Rattle.ev_terms.specs.declared.types.Tys.{Empty}
+use Rattle.ev_terms.specs.Term.{Term}
 use Rattle.ev_typing.specs.declared.typing.DataDecl.{DataDecl}
-use Rattle.ev_typing.specs.declared.typing.Entry.TheVariants.{Data}
-use Rattle.ev_typing.specs.Env.{Env}
+use Rattle.ev_typing.specs.declared.typing.Entry.TheVariants.{Data, Direct}
+use Rattle.ev_typing.specs.Env.{Env, Name}
+use Rattle.ev_typing.specs.Forms.{truth}
 use Rattle.ev_typing.specs.WellFormed.{HasNewNames, IsGoodEntry}
 use Rattle.ev_typing.specs.declared.typing.Entry.{Entry}
-use Rattle.ev_typing.specs.Samples.{list_decl, top_entry}
+use Rattle.ev_typing.specs.Samples.{list_decl, top_signature, top_entry}
 
 list_new : HasNewNames [] (Data list_decl)
 unfolding IsDistinct
@@ -59,3 +63,6 @@ pub top_over_empty : (env : Env) (e : Entry) → env ≡ [] → e ≡ top_entry 
 top_over_empty env e p q = subst (λ f. IsGoodEntry f e) (sym p) (subst (IsGoodEntry []) (sym q) top_good)
 
 pub ruleset tops = (top_to_empty, top_over_empty)
+
+pub top_made : (n : Name) (t : Term) → n ≡ codes "top" → t ≡ truth → Direct (record { name = n; params = 0; args = Empty; result = Prop }) None t ≡ top_entry
+top_made n t e f = ap (λ m. Direct (record { name = m; params = 0; args = Empty; result = Prop }) None t) e ∙ ap (Direct top_signature None) f

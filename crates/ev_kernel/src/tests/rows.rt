@@ -1,5 +1,5 @@
 //! The rows over the environment that declares nothing. A case is the number of a row and its sequents, the conclusion last.
-ghost use Rattle.std.specs.Prelude.{◌≤◌, length, IfOk};
+ghost use Rattle.std.specs.Prelude.{◌≤◌, IfOk};
 ghost use Rattle.std.specs.List.{AllByRecursion};
 
 use super::reading::{sequents, terms, types};
@@ -49,7 +49,9 @@ fn later_rule_of(row: u8) -> BaseRule {
 }
 
 /// The numbers from 1 on.
-fn numbers(alloc: Global, count: usize) -> Result<Nums, NoMemory> {
+fn numbers(alloc: Global, count: usize) -> Result<Nums, NoMemory>
+    ensures { IfOk result (AllByRecursion (λ n. (1 ≤ n) × (n ≤ count))) }
+{
     let mut numbers = Nums::new(alloc);
     for i in 0..count {
         numbers.push(alloc, i as u128 + 1)?;

@@ -1,5 +1,4 @@
-use Rattle.std.proofs.Common.{◌≡◌, [], ◌∷◌, ap, sym, ◌∙◌, map, subst}
-use Rattle.std.specs.Prelude.{◌↔◌, IsTrue}
+use Rattle.std.proofs.Common.{ap, sym, ◌∙◌, map}
 use Rattle.ev_terms.specs.Subst.{shift}
 use Rattle.ev_typing.specs.BaseSequents.{under}
 use Rattle.ev_kernel.proofs.Congruence.{under_parts}

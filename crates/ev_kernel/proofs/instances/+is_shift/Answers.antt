@@ -1,7 +1,7 @@
 use Rattle.ev_terms.specs.Subst.{shift}
 use Rattle.ev_kernel.proofs.Lists.{image_step}
 use Rattle.ev_kernel.proofs.Comparing.{same_node, shift_node}
-use Rattle.std.proofs.Common.{◌+◌, ap, ◌∙◌, map}
+use Rattle.std.proofs.Common.{◌+◌, ◌∙◌, map}
 use Rattle.ev_kernel.proofs.instances.+is_shift.Goals as goal
 
 pub are_shifts-loop-i-preserved : goal.are_shifts-loop-i-preserved

@@ -1,4 +1,4 @@
-use Rattle.std.proofs.Common.{◌≡◌, ap, sym, ◌∙◌, map}
+use Rattle.std.proofs.Common.{ap, sym, ◌∙◌, map}
 use Rattle.ev_terms.specs.Subst.{fill, instance}
 use Rattle.ev_kernel.proofs.Equations.{apart}
 use Rattle.ev_kernel.proofs.Binding.{instance_row, other_hyps}

@@ -1,4 +1,4 @@
-use Rattle.std.proofs.Common.{sym, subst, true≢false}
+use Rattle.std.proofs.Common.{sym, subst}
 use Rattle.std.specs.Prelude.{◌↔◌, IsTrue, IfOk}
 use Rattle.ev_kernel.specs.Row.{Row}
 use Rattle.ev_kernel.proofs.Equations.{refused}

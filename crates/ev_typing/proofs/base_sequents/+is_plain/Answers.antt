@@ -1,4 +1,4 @@
-use Rattle.ev_typing.proofs.BaseSequents.{plain_leaf, plain_node, direct_node, plain_step, plain_fails, plain_ends}
+use Rattle.ev_typing.proofs.BaseSequents.{plain_node}
 use Rattle.ev_typing.proofs.base_sequents.+is_plain.Goals as goal
 
 pub is_plain-returns-else-is_direct : goal.is_plain-returns-else-is_direct
