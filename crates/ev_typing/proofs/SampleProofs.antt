@@ -8,10 +8,9 @@ use Rattle.ev_terms.specs.Term.{Term}
 use Rattle.ev_typing.specs.declared.typing.DataDecl.{DataDecl}
 use Rattle.ev_typing.specs.declared.typing.Entry.TheVariants.{Data, Direct}
 use Rattle.ev_typing.specs.Env.{Env, Name}
-use Rattle.ev_typing.specs.Forms.{truth}
 use Rattle.ev_typing.specs.WellFormed.{HasNewNames, IsGoodEntry}
 use Rattle.ev_typing.specs.declared.typing.Entry.{Entry}
-use Rattle.ev_typing.specs.Samples.{list_decl, top_signature, top_entry}
+use Rattle.ev_typing.specs.Samples.{list_decl, truth, top_signature, top_entry}
 
 list_new : HasNewNames [] (Data list_decl)
 unfolding IsDistinct

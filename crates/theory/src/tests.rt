@@ -130,18 +130,31 @@ fn other_words_are_told_the_usage(rt: HostRuntime) -> Result<(), Fail> {
     Ok(())
 }
 
-#[test]
-fn an_input_has_a_greatest_length(rt: HostRuntime) -> Result<(), Fail> {
-    let mut blanks = Vec::new(rt.alloc());
-    for _ in 0..16_777_216 {
+/// Runs `check` on so many blocks of 4,096 blanks and some blanks more.
+fn check_blanks(alloc: Global, blocks: usize, more: usize) -> Result<(Exit, Ends), AllocError> {
+    let block = [b' '; 4096];
+    let mut blanks = Vec::new(alloc);
+    for _ in 0..blocks {
+        blanks.extend_from_slice(&block)?;
+    }
+    for _ in 0..more {
         blanks.push(b' ')?;
     }
-    let mut ends = make_ends(rt.alloc(), blanks.as_slice(), &[], &[])?;
-    assert_eq!(rt; check(rt.alloc(), &mut ends)?, Exit::Ok);
+    let mut ends = Ends {
+        source: MemSource::new(blanks, 65_536, Vec::new(alloc)),
+        sink: MemSink::new(alloc, 1, Vec::new(alloc)),
+    };
+    let exit = check(alloc, &mut ends)?;
+    Ok((exit, ends))
+}
+
+#[test]
+fn an_input_has_a_greatest_length(rt: HostRuntime) -> Result<(), Fail> {
+    let (exit, ends) = check_blanks(rt.alloc(), 4096, 0)?;
+    assert_eq!(rt; exit, Exit::Ok);
     assert_eq!(rt; ends.sink.bytes(), b"".as_slice());
-    blanks.push(b' ')?;
-    let mut longer = make_ends(rt.alloc(), blanks.as_slice(), &[], &[])?;
-    assert_eq!(rt; check(rt.alloc(), &mut longer)?, Exit::TooLong);
-    assert_eq!(rt; longer.sink.bytes(), b"too-long\n".as_slice());
+    let (exit, ends) = check_blanks(rt.alloc(), 4096, 1)?;
+    assert_eq!(rt; exit, Exit::TooLong);
+    assert_eq!(rt; ends.sink.bytes(), b"too-long\n".as_slice());
     Ok(())
 }

@@ -3,7 +3,7 @@ ghost use Rattle.std.specs.Prelude.{◌≤◌, IfOk};
 ghost use Rattle.std.specs.List.{AllByRecursion};
 
 use super::reading::{sequents, terms, types};
-use crate::{BaseRule, Line, infers};
+use crate::{BaseRule, Line, concludes, infers};
 use ev_terms::{NoMemory, Nums, Tree, TryCopy, make_var};
 use ev_typing::{Env, Sequents};
 use std::alloc::Global;
@@ -301,5 +301,17 @@ fn copy_follows(alloc: Global, text: &str) -> Result<bool, NoMemory> {
 #[test]
 fn a_line_is_copied(rt: HostRuntime) -> Result<(), Fail> {
     assert!(rt; copy_follows(rt.alloc(), "/T F F")?);
+    Ok(())
+}
+
+#[test]
+fn conclusions_without_premises(rt: HostRuntime) -> Result<(), Fail> {
+    let alloc = rt.alloc();
+    let env = Env::new(alloc);
+    for goal in sequents(alloc, "/F T T~ |; /z z~ |")?.as_slice() {
+        assert!(rt; concludes(alloc, &env, &BaseRule::Em, goal)?);
+        assert!(rt; !concludes(alloc, &env, &BaseRule::Hyp, goal)?);
+        assert!(rt; !concludes(alloc, &env, &BaseRule::Cut, goal)?);
+    }
     Ok(())
 }

@@ -1,5 +1,5 @@
 use Rattle.ev_typing.proofs.SampleProofs.{top_to_empty, top_over_empty, top_made}
-use Rattle.ev_typing.proofs.tests.forms.env_of_top.Goals as goal
+use Rattle.ev_typing.proofs.tests.sequents.env_of_top.Goals as goal
 
 pub add-requires-clause-new : goal.add-requires-clause-new
 add-requires-clause-new c = top_to_empty _ _ c.new-env.ensures (top_made _ _ c.in_ok-from_slice.ensures c.in_ok-body.ensures)
