@@ -1,0 +1,16 @@
+pub mod Small
+pub mod Occurrences
+pub mod Making
+pub mod Forming
+pub mod Bounding
+pub mod Asking
+pub mod Filling
+pub mod Destructing
+pub mod Walking
+pub mod SampleProofs
+pub mod Rules
+pub mod Replacing
+pub mod Replaced
+pub mod Retyped
+pub mod Typedness
+pub mod Widened

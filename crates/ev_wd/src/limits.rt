@@ -1,0 +1,41 @@
+//! The limits of formulas.
+ghost use Rattle.std.specs.Prelude.{◌≡◌, ◌↔◌, ◌≤◌, IsTrue, IfOk, Err};
+ghost use Rattle.ev_terms.specs.Measures.{size, depth, capped};
+ghost use Rattle.ev_wd.specs.Limits.{IsSmall};
+ghost use Rattle.ev_wd.specs.declared.faults.WdFault.TheVariants.{TooLarge};
+
+use crate::faults::WdFault;
+use ev_terms::{Extent, Tree, extent};
+
+/// The greatest size of a formula, in nodes.
+pub const SIZE_LIMIT: u64 = 65536;
+
+/// The greatest depth of a formula.
+pub const DEPTH_LIMIT: u64 = 512;
+
+/// Whether size and depth are within the limits.
+pub(crate) fn is_within(extent: Extent) -> bool
+    ensures { IsTrue result ↔ ((extent.size ≤ SIZE_LIMIT) × (extent.depth ≤ DEPTH_LIMIT)) }
+{
+    extent.size <= SIZE_LIMIT && extent.depth <= DEPTH_LIMIT
+}
+
+/// Whether a term is within the limits, in constant time.
+#[tactic(auto, using(crate::proofs::Small::limits))]
+pub(crate) fn is_small(tree: &Tree) -> bool
+    ensures { IsTrue result ↔ IsSmall tree.now }
+{
+    is_within(extent(tree))
+}
+
+/// The term, where it is within the limits.
+pub(crate) fn limited(tree: Tree) -> Result<Tree, WdFault>
+    ensures found { IfOk result (λ t. (t ≡ tree) × IsSmall t) }
+    ensures large { result ≡ Err TooLarge → ¬ IsSmall tree }
+{
+    if is_small(&tree) {
+        Ok(tree)
+    } else {
+        Err(WdFault::TooLarge)
+    }
+}
