@@ -1,0 +1,17 @@
+pub mod Reading
+pub mod Annotates
+pub mod Bare
+pub mod Equations
+pub mod Resolve
+pub mod Inference
+pub mod Laws
+pub mod Numbers
+pub mod BareView
+pub mod BareCode
+pub mod BareFalls
+pub mod Signing
+pub mod Walks
+pub mod Bulks
+pub mod Solving
+pub mod Filling
+pub mod Answering
