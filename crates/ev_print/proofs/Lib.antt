@@ -1,0 +1,13 @@
+pub mod Lexing
+pub mod Signs
+pub mod TypesBack
+pub mod Rows
+pub mod Pieces
+pub mod Written
+pub mod Declared
+pub mod Back
+pub mod TypeSteps
+pub mod Looking
+pub mod ParamSteps
+pub mod OpenSteps
+pub mod TermSteps
