@@ -7,7 +7,7 @@ ghost use Rattle.ev_typing.specs.declared.typing.Var.{Var};
 ghost use Rattle.ev_typing.specs.Profiles.{base_profile};
 ghost use Rattle.ev_typing.specs.TypeLists.{own_types};
 ghost use Rattle.ev_typing.specs.Env.{look_up, find_symbol, con_symbols, symbols, own_type, profile, con_profile, signature_profile, symbol_profile};
-ghost use Rattle.ev_print.specs.Canon.{annotation};
+ghost use Rattle.ev_print.specs.Canon.{annotation, leaves_open};
 ghost use Rattle.ev_print.specs.OpenTypes.{open_type};
 
 use crate::params::{fields_leave_open, types_leave_open};
@@ -138,7 +138,7 @@ fn data_type(alloc: Global, decl: &DataDecl, name: &Name) -> Result<Option<Ty>, 
 {
     for con in decl.cons.as_slice() {
         if con.name == *name {
-            return constructor_type(alloc, decl, con, name);
+            return constructor_type(alloc, decl, con);
         }
         if has_field(con, name) {
             return Ok(None);
@@ -159,13 +159,8 @@ fn has_field(con: &Con, name: &Name) -> bool
     false
 }
 
-fn constructor_type(
-    alloc: Global,
-    decl: &DataDecl,
-    con: &Con,
-    _name: &Name,
-) -> Result<Option<Ty>, NoMemory>
-    ensures { IfOk result (λ o. o ≡ open_type (User _name.now) (Some (con_profile decl.now con.now))) }
+fn constructor_type(alloc: Global, decl: &DataDecl, con: &Con) -> Result<Option<Ty>, NoMemory>
+    ensures { IfOk result (λ o. o ≡ (if leaves_open (con_profile decl.now con.now) then Some (own_type decl.now) else None)) }
 {
     if !fields_leave_open(decl.params, con.fields.as_slice()) {
         return Ok(None);

@@ -112,7 +112,7 @@ fn base_symbols_under_and_beside(rt: HostRuntime) -> Result<(), NoMemory> {
     Ok(())
 }
 
-/// `f(1, c)` or, with no arguments, `f`.
+/// A name with its arguments.
 fn call(alloc: Global, name: &str, args: Trees) -> Result<Tree, NoMemory> {
     let name = Name::from_slice(alloc, name.as_bytes())?;
     make_node(alloc, Sym::User(name), Tys::new(alloc), args)
