@@ -1,0 +1,3 @@
+pub mod TypeSteps
+pub mod NameSteps
+pub mod ResolveSteps
