@@ -16,16 +16,16 @@ use Rattle.ev_typing.specs.Typing.{IsProper, Typed}
 use Rattle.ev_typing.specs.Proper.{HasProperSignatures}
 use Rattle.ev_typing.specs.WellFormed.{IsWellFormed}
 use Rattle.ev_typing.proofs.ProperSignatures.{signatures_proper}
-use Rattle.ev_parse.specs.Raw.{Raw, Raws, none, one}
-use Rattle.ev_infer.specs.Reading.{Variable, context_of}
-use Rattle.ev_infer.specs.Annotates.{binder_names, all_binder_names, is_formula_name, variables_context}
-use Rattle.ev_infer.specs.Bare.{Fits}
-use Rattle.ev_infer.specs.Resolve.{known_of, forget, resolve}
-use Rattle.ev_infer.specs.Inference.{HaveProperTypes, IsAnnotation}
-use Rattle.ev_infer.proofs.Nodes.{context_type_proper}
-use Rattle.ev_infer.proofs.ToBare.{AreGood, to_bare}
-use Rattle.ev_infer.proofs.FromBare.{from_bare}
-use Rattle.ev_infer.proofs.Inference.{context_reverse, good_reverse}
+use Rattle.ev_raw.specs.Raw.{Raw, Raws, none, one}
+use Rattle.ev_annotate.specs.Reading.{Variable, context_of}
+use Rattle.ev_annotate.specs.Annotates.{binder_names, all_binder_names, is_formula_name, variables_context}
+use Rattle.ev_annotate.specs.Bare.{Fits}
+use Rattle.ev_annotate.specs.Resolve.{known_of, forget, resolve}
+use Rattle.ev_annotate.specs.Inference.{HaveProperTypes, IsAnnotation}
+use Rattle.ev_annotate.proofs.Nodes.{context_type_proper}
+use Rattle.ev_annotate.proofs.ToBare.{AreGood, to_bare}
+use Rattle.ev_annotate.proofs.FromBare.{from_bare}
+use Rattle.ev_annotate.proofs.Inference.{context_reverse, good_reverse}
 use Rattle.ev_typing.proofs.Proper.{result_from_proper}
 use Rattle.ev_print.specs.declared.styles.Style.{Style}
 use Rattle.ev_print.specs.declared.styles.Style.TheVariants.{Word, Braces, Infix, Not, Minus, Inverse, Around, Quantifier, SetFormer, Whole, Image, Application}

@@ -2,7 +2,7 @@
 use Rattle.std.specs.Prelude.{◌≡◌, ℕ, zero, suc, ◌+◌, ◌-◌, ◌<◌, ◌≤◌, Bool as Boolean, true, false, if◌then◌else◌, List, [], ◌∷◌, ◌++◌, map, reverse, take, length, Option, Some, None, refl}
 use Rattle.std.proofs.Common.{ap, sym, ◌∙◌, arith, get_or}
 use Rattle.std.proofs.lemmas.List.{reverse-append, map-append, take_all}
-use Rattle.ev_infer.specs.Reading.{Known, Variable, Meaning, variable_of, option_is, meaning}
+use Rattle.ev_annotate.specs.Reading.{Known, Variable, Meaning, variable_of, option_is, meaning}
 use Rattle.ev_reading.specs.declared.names.ScopeVariable.{ScopeVariable}
 use Rattle.ev_reading.specs.Scopes.{seen, scope_of}
 

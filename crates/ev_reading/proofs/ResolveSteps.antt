@@ -3,12 +3,12 @@ use Rattle.std.specs.Prelude.{◌≡◌, ℕ, zero, suc, ◌+◌, ◌-◌, ◌*�
 use Rattle.std.proofs.Common.{ap, sym, ◌∙◌, arith, get_or}
 use Rattle.std.proofs.lemmas.List.{take_all}
 use denote.Ref.{Bor}
-use Rattle.ev_parse.specs.Raw.{Binder, pattern_binders, Raw, Raws, word, literal, param, type_set, call, around, unary, binary, inverse, apply, image, of_type, quantified, set_of, collected, lambda, members, written, none, one}
-use Rattle.ev_parse.specs.RawView.{raws}
-use Rattle.ev_infer.specs.Reading.{Known, Variable, Meaning, meaning, both, count_of}
-use Rattle.ev_infer.specs.Bare.{Bare, Bares, bare_none, bare_more}
-use Rattle.ev_infer.specs.BareView.{bares}
-use Rattle.ev_infer.specs.Resolve.{call_bare, resolve, resolve_all}
+use Rattle.ev_raw.specs.Raw.{Binder, pattern_binders, Raw, Raws, word, literal, param, type_set, call, around, unary, binary, inverse, apply, image, of_type, quantified, set_of, collected, lambda, members, written, none, one}
+use Rattle.ev_raw.specs.RawView.{raws}
+use Rattle.ev_annotate.specs.Reading.{Known, Variable, Meaning, meaning, both, count_of}
+use Rattle.ev_annotate.specs.Bare.{Bare, Bares, bare_none, bare_more}
+use Rattle.ev_annotate.specs.BareView.{bares}
+use Rattle.ev_annotate.specs.Resolve.{call_bare, resolve, resolve_all}
 use Rattle.ev_reading.specs.declared.bound.Inner.{Inner}
 use Rattle.ev_reading.specs.declared.bound.Inner.TheVariants.{Body, Collected, Lambda}
 use Rattle.ev_reading.specs.Inners.{binders_told}

@@ -2,12 +2,12 @@
 use Rattle.std.specs.Prelude.{◌≡◌, ℕ, ◌+◌, ◌-◌, ◌≤◌, [], ◌∷◌, length, take, drop, Bool as Boolean, List, Option, Some, option_and_then}
 use Rattle.std.proofs.Common.{ap, sym, ◌∙◌, arith, get_or}
 use Rattle.std.proofs.lemmas.List.{take_all}
-use Rattle.ev_parse.specs.TypeView.{raw_types}
+use Rattle.ev_raw.specs.TypeView.{raw_types}
 use Rattle.ev_terms.specs.declared.types.Ty.{Ty}
 use Rattle.ev_terms.specs.declared.types.Tys.{Tys}
-use Rattle.ev_infer.specs.Reading.{named, both}
+use Rattle.ev_annotate.specs.Reading.{named, both}
 use Rattle.ev_terms.specs.Types.{more, Pow-pow, Prod-prod, More-more}
-use Rattle.ev_parse.specs.Raw.{RawType, RawTypes, int_type, bool_type, param_type, named_type, pow_type, prod_type, no_types, one_type}
+use Rattle.ev_raw.specs.Raw.{RawType, RawTypes, int_type, bool_type, param_type, named_type, pow_type, prod_type, no_types, one_type}
 
 pub ruleset forms = (Pow-pow, Prod-prod, More-more)
 

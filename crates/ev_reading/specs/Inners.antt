@@ -1,11 +1,11 @@
 -- What stands under bound names.
 use Rattle.std.specs.Prelude.{ℕ, List, map, Option, None}
 use denote.Ref.{Bor}
-use Rattle.ev_parse.specs.Raw.{Binder}
+use Rattle.ev_raw.specs.Raw.{Binder}
 use Rattle.ev_forms.specs.Base as base
-use Rattle.ev_infer.specs.Reading.{Known, Variable, both}
-use Rattle.ev_infer.specs.Bare.{Bare}
-use Rattle.ev_infer.specs.Resolve.{bare_two, collected_bare, pattern_bare, resolve}
+use Rattle.ev_annotate.specs.Reading.{Known, Variable, both}
+use Rattle.ev_annotate.specs.Bare.{Bare}
+use Rattle.ev_annotate.specs.Resolve.{bare_two, collected_bare, pattern_bare, resolve}
 use Rattle.ev_reading.specs.declared.bound.Inner.{Inner}
 use Rattle.ev_reading.specs.declared.bound.Inner.TheVariants.{Body, Collected, Lambda}
 

@@ -1,7 +1,7 @@
 -- The tables of marks as the code keeps them.
 use Rattle.std.specs.Prelude.{ℕ, List, map}
 use Rattle.ev_terms.specs.declared.types.Sym.TheVariants.{Base}
-use Rattle.ev_infer.specs.Reading.{Plain}
+use Rattle.ev_annotate.specs.Reading.{Plain}
 use Rattle.ev_reading.specs.declared.marks.Marked.{Marked}
 
 abbrev pub plain_of : Marked → Plain

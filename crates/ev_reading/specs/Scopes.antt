@@ -1,7 +1,7 @@
 -- The variables in scope as the code keeps them, the outermost first.
 use Rattle.std.specs.Prelude.{ℕ, List, map, reverse, Option, Some, None, if◌then◌else◌}
 use Rattle.ev_terms.specs.declared.types.Ty.{Ty, Int, Prop}
-use Rattle.ev_infer.specs.Reading.{Variable, Meaning, variable, predicate, parameter, symbol, nothing}
+use Rattle.ev_annotate.specs.Reading.{Variable, Meaning, variable, predicate, parameter, symbol, nothing}
 use Rattle.ev_reading.specs.declared.names.ScopeVariable.{ScopeVariable}
 use Rattle.ev_reading.specs.declared.names.Meant.{Meant}
 use Rattle.ev_reading.specs.declared.names.Meant.TheVariants.{Variable as AVariable, Predicate, Parameter, Symbol, Nothing}

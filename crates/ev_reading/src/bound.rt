@@ -1,9 +1,9 @@
 //! Bound names, and what stands under them.
 ghost use Rattle.std.specs.Prelude.{◌≡◌, ◌++◌, ◌∷◌, [], map, length, IfOk, OnOk};
-ghost use Rattle.ev_parse.specs.Raw.{pattern_binders};
+ghost use Rattle.ev_raw.specs.Raw.{pattern_binders};
 ghost use Rattle.ev_reading.specs.Inners.{binders_told};
 
-use ev_parse::{Binder, Pattern, PatternForm, Raw};
+use ev_raw::{Binder, Pattern, PatternForm, Raw};
 use ev_terms::NoMemory;
 use std::alloc::Global;
 

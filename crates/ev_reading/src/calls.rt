@@ -1,14 +1,14 @@
 //! Names with and without arguments.
 ghost use Rattle.std.specs.Prelude.{◌≡◌, ℕ, List, IfOk};
-ghost use Rattle.ev_infer.specs.Bare.{Bares, bare_var};
-ghost use Rattle.ev_infer.specs.Reading.{variable as a_variable, predicate as a_predicate, parameter as a_parameter, symbol as a_symbol};
-ghost use Rattle.ev_infer.specs.BareView.{bares};
-ghost use Rattle.ev_infer.specs.Resolve.{call_bare};
+ghost use Rattle.ev_annotate.specs.Bare.{Bares, bare_var};
+ghost use Rattle.ev_annotate.specs.Reading.{variable as a_variable, predicate as a_predicate, parameter as a_parameter, symbol as a_symbol};
+ghost use Rattle.ev_annotate.specs.BareView.{bares};
+ghost use Rattle.ev_annotate.specs.Resolve.{call_bare};
 ghost use Rattle.ev_reading.specs.Scopes.{meaning_told};
 
 use crate::makers::{EQUAL, TRUE_VALUE, application, leaf, two, whole};
 use crate::names::Meant;
-use ev_infer::{Bare, BareTerms, bare_symbol, bare_variable};
+use ev_annotate::{Bare, BareTerms, bare_symbol, bare_variable};
 use ev_terms::{Name, NoMemory, Sym, TryCopy, Ty};
 use std::alloc::Global;
 

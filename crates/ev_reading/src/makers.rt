@@ -3,10 +3,10 @@ ghost use Rattle.std.specs.Prelude.{◌≡◌, IfOk, Some, None};
 ghost use Rattle.ev_terms.specs.declared.types.Ty.{Bool};
 ghost use Rattle.ev_terms.specs.declared.types.Sym.TheVariants.{Base};
 ghost use Rattle.ev_forms.specs.Base as base;
-ghost use Rattle.ev_infer.specs.BareView.{bares};
-ghost use Rattle.ev_infer.specs.Resolve.{bare_one, bare_two, bare_leaf, type_bare, bare_and_not, bare_z, collected_bare, over_bare, application_bare};
+ghost use Rattle.ev_annotate.specs.BareView.{bares};
+ghost use Rattle.ev_annotate.specs.Resolve.{bare_one, bare_two, bare_leaf, type_bare, bare_and_not, bare_z, collected_bare, over_bare, application_bare};
 
-use ev_infer::{Bare, BareTerms, bare_symbol, bare_variable};
+use ev_annotate::{Bare, BareTerms, bare_symbol, bare_variable};
 use ev_syntax::mark_names::{OPEN_BRACE, UNION_OVER_WORD};
 use ev_terms::{NoMemory, Sym, Ty};
 use std::alloc::Global;

@@ -1,6 +1,6 @@
 //! What the marks before, around and between operands mean.
 ghost use Rattle.std.specs.Prelude.{◌≡◌, map, option_map};
-ghost use Rattle.ev_infer.specs.Reading.{entry_of, infix_symbols, prefix_symbols, around_symbols, word_symbols};
+ghost use Rattle.ev_annotate.specs.Reading.{entry_of, infix_symbols, prefix_symbols, around_symbols, word_symbols};
 ghost use Rattle.ev_reading.specs.Marked.{plain_of};
 
 use ev_syntax::mark_names::{

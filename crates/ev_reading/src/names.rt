@@ -3,12 +3,12 @@ ghost use Rattle.std.specs.Prelude.{◌≡◌, ◌-◌, position, bytes_eq, is_s
 ghost use Rattle.ev_typing.specs.Env.{find_data, profile};
 ghost use Rattle.ev_typing.specs.Profiles.{Profile};
 ghost use Rattle.ev_terms.specs.declared.types.Sym.TheVariants.{User};
-ghost use Rattle.ev_infer.specs.Reading.{meaning, formula_meaning, option_is, variable_of};
-ghost use Rattle.ev_infer.specs.Annotates.{is_formula_name};
-ghost use Rattle.ev_infer.specs.Resolve.{known_of};
+ghost use Rattle.ev_annotate.specs.Reading.{meaning, formula_meaning, option_is, variable_of};
+ghost use Rattle.ev_annotate.specs.Annotates.{is_formula_name};
+ghost use Rattle.ev_annotate.specs.Resolve.{known_of};
 ghost use Rattle.ev_reading.specs.Scopes.{seen, scope_of, meaning_told};
 
-use ev_infer::types_of_symbol;
+use ev_annotate::types_of_symbol;
 use ev_terms::{Name, Names, NoMemory, Same, Sym, TryCopy};
 use ev_typing::Env;
 use std::alloc::Global;

@@ -1,7 +1,7 @@
 //! Tests of what no contract shows: that with memory a raw tree is resolved.
 use crate::{ScopeVariable, resolve};
-use ev_infer::{Bare, BareForm};
-use ev_parse::{Binder, Binders, Raw, RawForm, Raws};
+use ev_annotate::{Bare, BareForm};
+use ev_raw::{Binder, Binders, Raw, RawForm, Raws};
 use ev_syntax::mark_names::{FOR_ALL_SIGN, NOT_EQUAL_SIGN};
 use ev_terms::{Name, Names, NoMemory, Sym};
 use ev_typing::Env;

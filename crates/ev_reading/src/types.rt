@@ -2,12 +2,12 @@
 ghost use Rattle.std.specs.Prelude.{◌≡◌, ℕ, Bool as Boolean, List, Some, None, position, bytes_eq, option_map, option_and_then, IfOk, is_some};
 ghost use Rattle.ev_terms.specs.Types.{pow, prod};
 ghost use Rattle.ev_typing.specs.Env.{find_data};
-ghost use Rattle.ev_parse.specs.TypeView.{raw_types};
-ghost use Rattle.ev_infer.specs.Reading.{named, type_of_raw, types_of_raw, both};
-ghost use Rattle.ev_infer.specs.Resolve.{known_of, written_type};
+ghost use Rattle.ev_raw.specs.TypeView.{raw_types};
+ghost use Rattle.ev_annotate.specs.Reading.{named, type_of_raw, types_of_raw, both};
+ghost use Rattle.ev_annotate.specs.Resolve.{known_of, written_type};
 
 use crate::names::position_of;
-use ev_parse::{RawType, RawTypeForm};
+use ev_raw::{RawType, RawTypeForm};
 use ev_terms::{Name, Names, NoMemory, Shared, TryCopy, Ty, Tys};
 use ev_typing::Env;
 use std::alloc::Global;

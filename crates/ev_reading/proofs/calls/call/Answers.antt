@@ -1,7 +1,7 @@
 use Rattle.std.proofs.Common.{ap, sym, ◌∙◌}
 use Rattle.ev_typing.proofs.Signatures.{ok_weaker}
-use Rattle.ev_infer.specs.BareView.{bares}
-use Rattle.ev_infer.specs.Resolve.{call_bare}
+use Rattle.ev_annotate.specs.BareView.{bares}
+use Rattle.ev_annotate.specs.Resolve.{call_bare}
 use Rattle.ev_reading.specs.Scopes.{meaning_told}
 use Rattle.ev_reading.proofs.calls.call.Goals as goal
 

@@ -1,4 +1,4 @@
-use Rattle.ev_infer.specs.Resolve.{known_of}
+use Rattle.ev_annotate.specs.Resolve.{known_of}
 use Rattle.ev_reading.proofs.NameSteps.{LooksIn}
 use Rattle.ev_reading.proofs.names.meaning_of.Given as goal
 

@@ -2,11 +2,11 @@ use Rattle.std.proofs.Common.{rules, ◌≡◌, ap, sym, ◌∙◌, ◌+◌, ◌
 use Rattle.ev_terms.specs.declared.types.Sym.TheVariants.{Base}
 use Rattle.ev_typing.proofs.Signatures.{ok_weaker}
 use Rattle.ev_typing.proofs.Names.{drop_at, drop_all}
-use Rattle.ev_parse.specs.Raw.{quantified, collected, lambda, members, one}
-use Rattle.ev_parse.specs.RawView.{raw_of, raws}
-use Rattle.ev_infer.specs.Reading.{quantifier, meaning}
-use Rattle.ev_infer.specs.BareView.{bares}
-use Rattle.ev_infer.specs.Resolve.{known_of, resolve, resolve_all, bind_all}
+use Rattle.ev_raw.specs.Raw.{quantified, collected, lambda, members, one}
+use Rattle.ev_raw.specs.RawView.{raw_of, raws}
+use Rattle.ev_annotate.specs.Reading.{quantifier, meaning}
+use Rattle.ev_annotate.specs.BareView.{bares}
+use Rattle.ev_annotate.specs.Resolve.{known_of, resolve, resolve_all, bind_all}
 use Rattle.ev_reading.specs.Scopes.{scope_of, meaning_told}
 use Rattle.ev_reading.specs.Inners.{binders_told}
 use Rattle.ev_reading.proofs.ResolveSteps.{with_rest, rest_found, before_nothing, call_found, first_raw}

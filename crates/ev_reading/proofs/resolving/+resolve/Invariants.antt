@@ -1,8 +1,8 @@
 use Rattle.std.proofs.Common.{◌≡◌, ◌+◌, ◌*◌, drop, length}
 use Rattle.std.specs.Option.{option_and_then}
-use Rattle.ev_parse.specs.Raw.{pattern_binders}
-use Rattle.ev_parse.specs.RawView.{raws}
-use Rattle.ev_infer.specs.Resolve.{known_of, resolve, resolve_all, resolve_members, bare_z}
+use Rattle.ev_raw.specs.Raw.{pattern_binders}
+use Rattle.ev_raw.specs.RawView.{raws}
+use Rattle.ev_annotate.specs.Resolve.{known_of, resolve, resolve_all, resolve_members, bare_z}
 use Rattle.ev_reading.specs.Scopes.{scope_of}
 use Rattle.ev_reading.proofs.ResolveSteps.{weight, weights, inner_weight, with_rest}
 use Rattle.ev_reading.proofs.resolving.+resolve.Given as goal

@@ -2,10 +2,10 @@ use Rattle.std.proofs.Common.{rules, ◌≡◌, ap, sym, ◌∙◌, ◌-◌, len
 use Rattle.ev_typing.specs.Env.{find_data}
 use Rattle.ev_typing.proofs.Signatures.{ok_weaker}
 use Rattle.ev_terms.specs.Types.{More-more}
-use Rattle.ev_parse.specs.Raw.{one_type}
-use Rattle.ev_parse.specs.TypeView.{raw_types}
-use Rattle.ev_infer.specs.Reading.{type_of_raw, types_of_raw}
-use Rattle.ev_infer.specs.Resolve.{known_of}
+use Rattle.ev_raw.specs.Raw.{one_type}
+use Rattle.ev_raw.specs.TypeView.{raw_types}
+use Rattle.ev_annotate.specs.Reading.{type_of_raw, types_of_raw}
+use Rattle.ev_annotate.specs.Resolve.{known_of}
 use Rattle.ev_reading.proofs.TypeSteps.{named_with, types_with, first_type}
 use Rattle.ev_reading.proofs.types.+types.Goals as goal
 

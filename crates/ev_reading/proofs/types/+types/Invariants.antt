@@ -1,5 +1,5 @@
 use Rattle.std.proofs.Common.{◌+◌}
-use Rattle.ev_parse.specs.TypeView.{raw_types}
+use Rattle.ev_raw.specs.TypeView.{raw_types}
 use Rattle.ev_reading.proofs.TypeSteps.{weight, weights}
 use Rattle.ev_reading.proofs.types.+types.Given as goal
 
