@@ -21,7 +21,6 @@ pub mod Runs
 pub mod Wrapping
 pub mod Looser
 pub mod Comes
-pub mod Nests
 pub mod WholeSound
 pub mod WholeSoundRaw
 pub mod Answers
