@@ -69,7 +69,7 @@ more_members [] = no_more_complete
 more_members (b ∷ bs) = more_complete (member_of b.name b.type) (more_of bs) (member_complete b.name b.type) (more_members bs)
 
 -- so the list is found before a dot or a bar
-binders_items : (b : Binder) (bs : List Binder) (ts rest : List Token) → ReadsBinders (b ∷ bs) ts rest → StopsItem rest
+pub binders_items : (b : Binder) (bs : List Binder) (ts rest : List Token) → ReadsBinders (b ∷ bs) ts rest → StopsItem rest
     → Eventually (λ g. items g (parse g (level 0)) ts) (one (member_of b.name b.type) (more_of bs), rest)
 binders_items b bs ts rest (us, h, more) stops =
     items_found (member_of b.name b.type) (more_of bs) ts us rest (member_complete b.name b.type) (more_members bs) (binder_reads b ts us h) (more_reads bs us rest more) stops
@@ -77,10 +77,10 @@ binders_items b bs ts rest (us, h, more) stops =
 no_brace_first : (b : Binder) (bs : List Binder) (ts rest : List Token) → ReadsBinders (b ∷ bs) ts rest → begins close_brace ts ≡ false
 no_brace_first b bs ts rest (us, (vs, e, h), more) = subst (λ xs. begins close_brace xs ≡ false) (sym e) refl
 
-dot_item : (ts : List Token) → StopsItem (mark dot ∷ ts)
+pub dot_item : (ts : List Token) → StopsItem (mark dot ∷ ts)
 dot_item ts = record { level = record { operator = refl; post = refl; type = refl }; no_comma = refl }
 
-bar_item : (ts : List Token) → StopsItem (mark bar ∷ ts)
+pub bar_item : (ts : List Token) → StopsItem (mark bar ∷ ts)
 bar_item ts = record { level = record { operator = refl; post = refl; type = refl }; no_comma = refl }
 
 -- `{x | P}`

@@ -1,0 +1,6 @@
+pub mod Levels
+pub mod Forms
+pub mod Closings
+pub mod Frames
+pub mod Braces
+pub mod FormulaAnswers
