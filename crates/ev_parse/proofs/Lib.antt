@@ -1,0 +1,5 @@
+pub mod EndingMoves
+pub mod ItemMoves
+pub mod WholeMoves
+pub mod FrontMoves
+pub mod Heights
