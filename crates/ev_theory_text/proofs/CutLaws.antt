@@ -2,6 +2,9 @@
 use Rattle.std.proofs.Common.{◌≡◌, ℕ, zero, suc, ◌+◌, ◌-◌, ◌≤◌, ◌<◌, Bool, true, false, List, [], ◌∷◌, ◌++◌, length, take, drop, slice_index, Some, None, refl, sym, ap, subst, ◌∙◌, arith}
 use Rattle.std.proofs.lemmas.Bool.{eq-eqb, eqb-true}
 use Rattle.std.proofs.lemmas.List.{append_assoc, append-nil, map-append, length-append, length-drop, length-take-le, drop-drop, take_all, drop_all}
+use Rattle.std.specs.List.{All}
+use Rattle.std.proofs.lemmas.List.{length-take}
+use Rattle.std.proofs.lemmas.List.Elements.{All-nil, All-cons, All-append}
 use Rattle.std.proofs.Math.Seq.{take-add}
 use denote.Ref.{Bor}
 use Rattle.memchr.specs.Find.{is_byte, IsFirstByte}
@@ -206,3 +209,18 @@ module _ (text : List ℕ) (k : ℕ) (length_is : k ≡ length (cut text).front)
 
   pub parts_behind : (cut (drop k text)).parts ≡ (cut text).parts
   parts_behind = ap (λ n. (cut (drop n text)).parts) length_is ∙ (splits text).parts
+
+-- no part is longer than the text
+abbrev pub AreWithin : ℕ → List (Bor (List ℕ)) → Type 0
+AreWithin n parts = All (λ (p : Bor (List ℕ)). length p.now ≤ n) parts
+
+pub none_within : (n : ℕ) (parts : List (Bor (List ℕ))) → parts ≡ [] → AreWithin n parts
+none_within n parts e = subst (AreWithin n) (sym e) (All-nil (λ (p : Bor (List ℕ)). length p.now ≤ n))
+
+pub more_within : (text : List ℕ) (at k : ℕ) (rest : List ℕ) → rest ≡ drop at text → (found more : List (Bor (List ℕ))) (p : Bor (List ℕ)) → more ≡ found ++ p ∷ [] → p.now ≡ take k rest
+    → AreWithin (length text) found → AreWithin (length text) more
+more_within text at k rest is found more p pushed is_part h =
+    subst (AreWithin (length text)) (sym pushed)
+    (All-append (λ (q : Bor (List ℕ)). length q.now ≤ length text) found (p ∷ []) h
+    (All-cons (λ (q : Bor (List ℕ)). length q.now ≤ length text) p []
+    (omega (arith, ap length is_part, length-take k rest, ap length is, length-drop at text)) (All-nil (λ (q : Bor (List ℕ)). length q.now ≤ length text))))

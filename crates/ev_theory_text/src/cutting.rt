@@ -1,6 +1,6 @@
 //! The cut of a theory text into the parts that are its elements.
 ghost use Rattle.std.specs.Prelude.{◌≡◌, ◌≤◌, ◌<◌, length, drop, take, IfOk, codes};
-ghost use Rattle.std.specs.List.{list_any};
+ghost use Rattle.std.specs.List.{list_any, All};
 ghost use Rattle.bstr.specs.Text.{line_len};
 ghost use Rattle.bstr.specs.Utf8.{decoded};
 ghost use Rattle.ev_theory_text.specs.Cut.{continues_name, begins_with_keyword, begins_element, cut, texts};
@@ -97,6 +97,8 @@ fn front_length(text: &[u8]) -> usize
 pub fn cut(alloc: Global, text: &[u8]) -> Result<Pieces<'_>, NoMemory>
     ensures front { IfOk result (λ pieces. pieces.front.now ≡ (cut text.now).front) }
     ensures parts { IfOk result (λ pieces. texts pieces.parts.items ≡ (cut text.now).parts) }
+    ensures front_within { IfOk result (λ pieces. length pieces.front.now ≤ length text.now) }
+    ensures parts_within { IfOk result (λ pieces. All (λ part. length part.now ≤ length text.now) pieces.parts.items) }
 {
     let front = front_length(text);
     let mut parts = Vec::new(alloc);

@@ -1,4 +1,7 @@
 //! Tests of what no contract shows: that texts are cut where a reader sees their elements begin.
+mod elements;
+mod lines;
+
 use crate::cutting::cut;
 use ev_terms::NoMemory;
 use std::alloc::Global;
