@@ -21,4 +21,5 @@ pub use annotation::{Equations, annotate};
 pub use bare::{Bare, BareForm, BareTerms, bare_literal, bare_symbol, bare_typed, bare_variable};
 pub use faults::InferFault;
 pub use laws::{answer_laws, inference_laws};
+pub use patterns::same_pattern;
 pub use signatures::{SymbolTypes, types_of_symbol};

@@ -63,8 +63,8 @@ fn param_of(alloc: Global, types: &[Pat], i: u32) -> Result<Pat, NoMemory>
     }
 }
 
-/// The type as it stands, as a pattern.
-pub(crate) fn same_pattern(alloc: Global, ty: &Ty) -> Result<Pat, NoMemory>
+/// The type as it stands, as a pattern. Linear in the type.
+pub fn same_pattern(alloc: Global, ty: &Ty) -> Result<Pat, NoMemory>
     ensures { IfOk result (λ p. p ≡ same_pattern ty.now) }
 {
     pattern_of(alloc, ty, &[])

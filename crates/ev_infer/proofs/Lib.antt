@@ -1,0 +1,10 @@
+pub mod ContextSteps
+pub mod Marks
+pub mod VariableSteps
+pub mod Both
+pub mod Retyped
+pub mod Variables
+pub mod MendedTypes
+pub mod Annotations
+pub mod Answering
+pub mod Exact

@@ -1,0 +1,17 @@
+use Rattle.std.specs.Prelude.{◌≤◌, length}
+use Rattle.std.proofs.Common.{rules, ◌++◌, ◌∙◌, ap, sym, map}
+use Rattle.std.proofs.lemmas.List.{append-nil}
+use Rattle.ev_typing.proofs.Names.{drop_all}
+use Rattle.ev_annotate.specs.Resolve.{forget}
+use Rattle.ev_reading.specs.Scopes.{seen}
+use Rattle.ev_infer.specs.Answers.{variables}
+use Rattle.ev_infer.proofs.ContextSteps.{scope_told}
+use Rattle.ev_infer.proofs.contexts.scope_of.Goals as goal
+
+pub returns : goal.returns
+returns c =
+    let past : length c.args.vars.now ≤ c.loop-var.var-index = search rules in
+    scope_told c.loop-var.scope.items (variables c.args.vars.now)
+    (sym (append-nil (map seen c.loop-var.scope.items))
+    ∙ ap (λ l. map seen c.loop-var.scope.items ++ map forget (variables l)) (sym (drop_all c.args.vars.now c.loop-var.var-index past))
+    ∙ c.loop-var.invariant)
