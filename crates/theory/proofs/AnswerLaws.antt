@@ -1,12 +1,12 @@
 -- Words, and how a run ends.
-use Rattle.std.proofs.Common.{◌≡◌, ◌≢◌, ◌<◌, ◌≤◌, ◌↔◌, ◌⊎◌, inl, inr, ℕ, Bool, true, IsTrue, List, [], ◌∷◌, Option, get_or, length, map, refl, ap, sym, ◌∙◌, arith}
+use Rattle.std.proofs.Common.{◌≡◌, ◌<◌, ◌≤◌, ◌↔◌, ◌⊎◌, inl, inr, ℕ, Bool, IsTrue, List, [], ◌∷◌, Option, get_or, length, map, refl, ap, sym, ◌∙◌, arith}
 use Rattle.std.proofs.lemmas.Slice.Eq.{bytes_eq-Decides}
 use Rattle.std.specs.Prelude.{bytes_eq}
 use Rattle.theory.specs.declared.script.Script.{Script}
 use Rattle.theory.specs.declared.answers.Exit.{Exit}
 use Rattle.theory.specs.declared.answers.Exit.TheVariants as exit
 use Rattle.theory.specs.Scripts.{IsScript}
-use Rattle.theory.specs.Answers.{Answers, EndsWith, IsCheck, IsCut, input_limit}
+use Rattle.theory.specs.Answers.{EndsWith, IsCheck, IsCut, input_limit}
 
 never : (e : Exit) → (e ≡ exit.SinkFault → ⊥) → (e ≡ exit.NoMemory → ⊥) → IsCut e → ⊥
 never e a b (inl h) = a h

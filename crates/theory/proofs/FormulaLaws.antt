@@ -1,13 +1,12 @@
 -- One formula at most stands at the front of some marks and goes on as far as it can.
-use Rattle.std.proofs.Common.{◌≡◌, ◌≢◌, ◌<◌, ◌≤◌, ℕ, List, [], ◌∷◌, refl, ap, subst, sym, ◌∙◌, ◌⊎◌, inl, inr, arith}
+use Rattle.std.proofs.Common.{◌≡◌, ◌≢◌, List, ◌∷◌, refl, ap, subst, sym, ◌∙◌, ◌⊎◌, inl, inr}
 use Rattle.ev_terms.specs.Term.{Term}
-use Rattle.ev_terms.specs.Measures.{depth}
 use Rattle.ev_forms.specs.Forms.{neg}
 use Rattle.ev_forms.specs.Connectives.{joined}
 use Rattle.ev_forms.specs.declared.connectives.Connective.{Connective}
 use Rattle.ev_forms.specs.declared.connectives.Connective.TheVariants as connective
 use Rattle.theory.specs.declared.marks.Mark.{Mark}
-use Rattle.theory.specs.declared.marks.Mark.TheVariants.{True, False, Not, And, Or, Implies, Iff, Open, Close}
+use Rattle.theory.specs.declared.marks.Mark.TheVariants.{True, False, Close}
 use Rattle.theory.specs.Formulas.{mark_of, IsChained, IsSingle, Literal, Chain, Conjunction, Predicate, is_true, is_false, is_negation, in_parens, ends, goes_on, chained, alone, is_joined}
 use Rattle.theory.specs.Parsing.{StopsBefore, EndsConjunction, EndsPredicate}
 

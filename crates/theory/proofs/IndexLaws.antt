@@ -1,8 +1,7 @@
 -- The places of a theory's proofs.
-use Rattle.std.proofs.Common.{◌≡◌, ◌+◌, ◌<◌, ◌++◌, ℕ, Bool, true, false, List, [], ◌∷◌, Option, Some, None, cond, find, get_or, length, option_and_then, reverse, slice_get, take, refl, ap, sym, subst, ◌∙◌, arith}
+use Rattle.std.proofs.Common.{◌≡◌, ◌+◌, ◌<◌, ◌++◌, ℕ, Bool, true, false, List, [], ◌∷◌, Option, Some, cond, find, get_or, length, option_and_then, reverse, slice_get, take, refl, ap, sym, ◌∙◌}
 use Rattle.std.proofs.lemmas.List.{take_more}
 use Rattle.std.proofs.lemmas.Option.{slice_get-get_or}
-use Rattle.std.specs.Prelude.{bytes_eq}
 use Rattle.theory.specs.declared.script.StoredProof.{StoredProof}
 use Rattle.theory.specs.Reports.{is_for, IsIndexOf}
 use Rattle.theory.proofs.StepLaws.{pushed}

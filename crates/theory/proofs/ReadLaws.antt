@@ -1,14 +1,14 @@
 -- What the steps of the formula reader rest on.
-use Rattle.std.proofs.Common.{◌≡◌, ◌≢◌, ◌+◌, ◌-◌, ◌<◌, ◌≤◌, ℕ, zero, suc, List, [], ◌∷◌, refl, ap, subst, sym, ◌∙◌, ◌⊎◌, inl, inr, arith, drop, length, max, Option, Some, None}
+use Rattle.std.proofs.Common.{◌≡◌, ◌≢◌, ◌+◌, ◌-◌, ◌<◌, ◌≤◌, ℕ, zero, suc, List, ◌∷◌, refl, ap, subst, sym, ◌∙◌, inl, inr, arith, drop, length, max, Option, Some, None}
 use Rattle.std.specs.Prelude.{IfSome, IfNone, Bool, true, false, is_some}
 use Rattle.ev_terms.specs.Term.{Term, var, lit, node}
 use Rattle.ev_terms.specs.Measures.{depth}
-use Rattle.ev_forms.specs.Forms.{neg, truth, falsity}
+use Rattle.ev_forms.specs.Forms.{neg}
 use Rattle.ev_forms.specs.Connectives.{joined}
 use Rattle.ev_forms.specs.declared.connectives.Connective.{Connective}
 use Rattle.ev_forms.specs.declared.connectives.Connective.TheVariants as connective
 use Rattle.theory.specs.declared.marks.Mark.{Mark}
-use Rattle.theory.specs.declared.marks.Mark.TheVariants.{True, False, Not, And, Or, Implies, Iff, Open, Close}
+use Rattle.theory.specs.declared.marks.Mark.TheVariants.{True, False, Not, Open, Close}
 use Rattle.theory.specs.declared.formulas.Want.{Want}
 use Rattle.theory.specs.declared.formulas.Want.TheVariants as want
 use Rattle.theory.specs.declared.formulas.Found.{Found}

@@ -1,5 +1,5 @@
 -- Lists that are read item by item, where each item is read in one way at most.
-use Rattle.std.proofs.Common.{◌≡◌, ◌+◌, ◌<◌, ◌≤◌, ℕ, suc, get_or, Bool, true, false, List, [], ◌∷◌, ◌++◌, Option, Some, None, length, drop, map, filter, refl, ap, subst, sym, ◌∙◌, append_assoc, arith, ◌⊎◌, inl, inr}
+use Rattle.std.proofs.Common.{◌≡◌, ◌+◌, ◌<◌, ◌≤◌, ℕ, suc, Bool, true, false, List, [], ◌∷◌, ◌++◌, Some, length, drop, refl, ap, subst, sym, ◌∙◌, append_assoc, arith}
 use Rattle.std.proofs.lemmas.List.{append-nil}
 use Rattle.std.specs.List.{AllZip}
 use Rattle.std.specs.Prelude.{not, if◌then◌else◌}
@@ -10,17 +10,17 @@ use Rattle.ev_forms.specs.declared.connectives.Connective.{Connective}
 use Rattle.theory.specs.declared.marks.Mark.{Mark}
 use Rattle.theory.specs.declared.theorems.Theorem.{Theorem}
 use Rattle.theory.specs.declared.steps.Step.{Step}
-use Rattle.theory.specs.Words.{are_blanks, full_lines, nowhere, piece, skip_blanks, texts, trimmed}
+use Rattle.theory.specs.Words.{full_lines, nowhere, piece, texts}
 use denote.Ref.{Bor}
 use Rattle.std.proofs.Math.Seq.{drop-cons}
 use Rattle.std.proofs.Math.ListN.{drop_of_length-le}
 use Rattle.std.specs.Prelude.{bytes_eq}
 use Rattle.std.specs.List.{list_any}
-use Rattle.theory.specs.Formulas.{Front, mark_of, mark_front, AreMarks, IsFormula, Predicate, nesting_limit, size_limit}
+use Rattle.theory.specs.Formulas.{Front, mark_of, AreMarks, IsFormula, Predicate, nesting_limit}
 use Rattle.theory.specs.Parsing.{EndsPredicate}
 use Rattle.ev_terms.specs.Measures.{depth}
 use Rattle.theory.specs.Theorems.{Labelled, theorem_parts, IsTheorem, AreDifferent, AreTheorems, labels_of}
-use Rattle.theory.specs.Steps.{step_of, IsStep}
+use Rattle.theory.specs.Steps.{IsStep}
 
 -- the items done make all with what the rest is read as, and nothing else does
 pub record ReadSoFar {A B : Type 0} (R : A → B → Type 0) (all : List A) (done : List B) (rest : List A) : Type 0 where

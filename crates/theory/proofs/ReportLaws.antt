@@ -1,10 +1,10 @@
 -- Statuses and their lines.
-use Rattle.std.proofs.Common.{◌≡◌, ◌≤◌, ◌<◌, ◌+◌, ◌++◌, ℕ, suc, List, [], ◌∷◌, Option, Some, None, Result, Ok, Err, OnOk, append_assoc, drop, get_or, length, option_and_then, slice_get, take, refl, ap, subst, sym, ◌∙◌, arith}
+use Rattle.std.proofs.Common.{◌≡◌, ◌≤◌, ◌<◌, ◌+◌, ◌++◌, ℕ, suc, List, [], ◌∷◌, Option, Some, None, Result, Ok, Err, OnOk, append_assoc, drop, get_or, length, option_and_then, slice_get, take, refl, ap, subst, sym, ◌∙◌}
 use Rattle.std.proofs.lemmas.List.{append-nil, take_more}
 use Rattle.std.proofs.Math.ListN.{drop_of_length-le}
 use Rattle.std.specs.List.{AllByRecursion, AllZip}
 use Rattle.ev_terms.specs.declared.types.Tys.{Tys, Empty}
-use Rattle.ev_terms.specs.declared.types.Tys.{Empty, More}
+use Rattle.ev_terms.specs.declared.types.Tys.{Empty}
 use Rattle.ev_terms.specs.Types.{more, type_list}
 use Rattle.ev_terms.specs.Term.{Term}
 use Rattle.ev_typing.specs.declared.typing.Sequent.{Sequent}

@@ -1,23 +1,22 @@
 -- The units of a script, one after the other.
-use Rattle.std.proofs.Common.{◌≡◌, ◌+◌, ◌<◌, ◌≤◌, ℕ, zero, suc, get_or, ◌-◌, Bool, true, false, List, [], ◌∷◌, ◌++◌, Option, Some, None, length, take, drop, length-drop, drop-drop, map, refl, ap, subst, sym, ◌∙◌, append_assoc, arith, ◌⊎◌, inl, inr}
-use Rattle.std.proofs.Math.Seq.{take-suc}
+use Rattle.std.proofs.Common.{◌≡◌, ◌+◌, ◌<◌, ◌≤◌, ℕ, zero, suc, ◌-◌, true, false, List, [], ◌∷◌, ◌++◌, Option, Some, None, length, take, drop, length-drop, drop-drop, refl, ap, subst, sym, ◌∙◌, append_assoc, arith, ◌⊎◌, inl, inr}
 use Rattle.std.proofs.lemmas.List.{append-nil}
 use Rattle.std.specs.List.{AllZip, list_all}
-use Rattle.std.specs.Prelude.{if◌then◌else◌, option_map, slice_range, ◌&&◌}
+use Rattle.std.specs.Prelude.{option_map, slice_range}
 use denote.Ref.{Bor}
 use Rattle.theory.specs.declared.steps.Step.{Step}
 use Rattle.theory.specs.declared.script.Head.{Head}
 use Rattle.theory.specs.declared.script.Head.TheVariants.{Put, Proof}
 use Rattle.theory.specs.declared.script.StoredProof.{StoredProof}
 use Rattle.theory.specs.declared.script.Theory.{Theory}
-use Rattle.theory.specs.Words.{are_blanks, full_lines, nowhere, piece, texts, trimmed, words_of}
-use Rattle.theory.specs.Steps.{AreSteps, IsStep}
+use Rattle.theory.specs.Words.{are_blanks, full_lines, piece, texts, trimmed, words_of}
+use Rattle.theory.specs.Steps.{IsStep}
 use Rattle.theory.specs.Theorems.{AreTheorems}
-use Rattle.theory.specs.Scripts.{Body, ScriptUnit, UnitFront, body_of, with_line, with_body, is_end, head_of, head_of_words, proof_head, unit_front, BlankSoFar, IsUnitAt, PutsNothing, IsProof, IsTheory, AreProofs, AreScript}
+use Rattle.theory.specs.Scripts.{Body, ScriptUnit, UnitFront, body_of, with_line, with_body, is_end, head_of, head_of_words, proof_head, unit_front, BlankSoFar, IsUnitAt, PutsNothing, IsProof, AreProofs, AreScript}
 use Rattle.theory.specs.declared.script.Script.{Script}
 use Rattle.theory.specs.declared.theorems.Theorem.{Theorem}
 use Rattle.theory.proofs.MarkLaws.{two}
-use Rattle.theory.proofs.ReadingLaws.{texts_next, texts_end, some_one, step_one, theorem_one}
+use Rattle.theory.proofs.ReadingLaws.{texts_next, texts_end, some_one, step_one}
 
 pub texts-take : (pieces : List (Bor (List ℕ))) (i : ℕ) → texts (take i pieces) ≡ take i (texts pieces)
 texts-take [] zero = refl

@@ -1,5 +1,5 @@
 -- What replays rest on.
-use Rattle.std.proofs.Common.{Result, Ok, Err, ◌≡◌, ◌≢◌, ◌+◌, ◌-◌, ◌<◌, ◌≤◌, ◌↔◌, Bool, true, false, ℕ, zero, suc, get_or, List, [], ◌∷◌, ◌++◌, Option, Some, None, IsSome, length, drop, option_to_list, reverse, take, refl, ap, subst, sym, ◌∙◌, arith, ◌⊎◌, inl, inr}
+use Rattle.std.proofs.Common.{Result, Ok, Err, ◌≡◌, ◌+◌, ◌<◌, ◌↔◌, true, false, ℕ, zero, suc, get_or, List, [], ◌∷◌, ◌++◌, Option, Some, None, IsSome, length, drop, option_to_list, reverse, refl, ap, subst, sym, ◌∙◌, arith, inl, inr}
 use Rattle.std.proofs.Math.Seq.{drop-cons}
 use Rattle.std.proofs.lemmas.List.{reverse-append}
 use Rattle.std.specs.List.{AllByRecursion}
@@ -10,7 +10,7 @@ use Rattle.ev_terms.specs.Term.{Term}
 use Rattle.ev_typing.specs.declared.typing.Entry.{Entry}
 use Rattle.ev_typing.specs.declared.typing.Sequent.{Sequent}
 use Rattle.ev_typing.specs.Sequents.{◌⊢◌, ◌▹◌, IsWithin}
-use Rattle.ev_forms.specs.Forms.{truth, conj, disj, imp}
+use Rattle.ev_forms.specs.Forms.{conj, disj, imp}
 use Rattle.ev_kernel.specs.declared.rules.BaseRule.{BaseRule}
 use Rattle.ev_kernel.specs.declared.rules.BaseRule.TheVariants as rule
 use Rattle.ev_kernel.specs.Row.{Row}
@@ -20,8 +20,9 @@ use Rattle.theory.specs.declared.steps.Step.{Step}
 use Rattle.theory.specs.declared.steps.Step.TheVariants.{Hyp, TrueI, AndI, OrI1, OrI2, ImpI, Open}
 use Rattle.theory.specs.declared.steps.Applied.TheVariants.{Goals, Left, Refused}
 use Rattle.theory.specs.declared.steps.Outcome.{Outcome}
-use Rattle.theory.specs.declared.steps.Outcome.TheVariants.{Complete, Partial, Broken}
-use Rattle.theory.specs.Steps.{rule_of, ReadsUp, GivesGoals, Applies, Leaves, Advances, ReplaysFrom, Replays, outcome_with, size_limit, depth_limit}
+use Rattle.theory.specs.declared.steps.Outcome.TheVariants.{Complete, Broken}
+use Rattle.theory.specs.Formulas.{size_limit}
+use Rattle.theory.specs.Steps.{rule_of, ReadsUp, GivesGoals, Applies, Advances, ReplaysFrom, Replays, outcome_with, depth_limit}
 use Rattle.theory.proofs.TypedLaws.{all_append, both_base, one_side_base, assumed_base}
 
 -- What each step gives.

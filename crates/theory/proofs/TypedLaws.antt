@@ -1,9 +1,9 @@
 -- Formulas are predicates over the environment that declares nothing, and a step leads from typed goals to typed goals.
-use Rattle.std.proofs.Common.{◌≡◌, ◌++◌, ◌⊎◌, inl, inr, ℕ, zero, suc, List, [], ◌∷◌, Option, Some, None, refl, ap, subst, sym, ◌∙◌, take}
+use Rattle.std.proofs.Common.{◌≡◌, ◌++◌, ℕ, zero, suc, List, [], ◌∷◌, Option, Some, None, refl, subst, sym, take}
 use Rattle.std.proofs.lemmas.List.{append-nil}
 use Rattle.std.specs.List.{AllByRecursion, AllZip}
 use Rattle.ev_terms.specs.declared.types.Ty.{Ty, Prop}
-use Rattle.ev_terms.specs.declared.types.Tys.{Tys, Empty}
+use Rattle.ev_terms.specs.declared.types.Tys.{Empty}
 use Rattle.ev_terms.specs.declared.types.Sym.{Sym}
 use Rattle.ev_terms.specs.Types.{type_list}
 use Rattle.ev_terms.specs.Symbols.{binds}

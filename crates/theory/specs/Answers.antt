@@ -1,5 +1,5 @@
 -- What the program answers: its exit, and the text that it writes.
-use Rattle.std.specs.Prelude.{◌≡◌, ◌≢◌, ◌++◌, ◌<◌, ◌≤◌, ◌⊎◌, ℕ, List, [], ◌∷◌, Option, codes, length}
+use Rattle.std.specs.Prelude.{◌≡◌, ◌++◌, ◌<◌, ◌≤◌, ◌⊎◌, ℕ, List, [], ◌∷◌, Option, codes, length}
 use Rattle.std.specs.Io.KnownBytes.{Appends}
 use Rattle.ev_outside.specs.Ends.{AppendsFront}
 use Rattle.theory.specs.declared.script.Script.{Script}

@@ -1,6 +1,6 @@
 -- Propositional formulas: their signs and words, and the grammar. Each relation says that a formula stands at the front of some
 -- marks, and which marks come after it.
-use Rattle.std.specs.Prelude.{◌≡◌, ◌&&◌, ◌||◌, ◌⊎◌, ◌≤◌, ℕ, Bool, true, false, List, [], ◌∷◌, Option, Some, None, bytes_eq, codes, drop, length, if◌then◌else◌, nat_eq, option_map}
+use Rattle.std.specs.Prelude.{◌≡◌, ◌⊎◌, ◌≤◌, ℕ, true, List, [], ◌∷◌, Option, Some, None, bytes_eq, codes, drop, length, if◌then◌else◌, nat_eq, option_map}
 use Rattle.std.specs.List.{starts_with, take_while}
 use denote.Ref.{Bor}
 use Rattle.ev_terms.specs.Term.{Term}
@@ -86,10 +86,11 @@ mutual
     is_joined : (c : Connective) (P Q R : Term) (ts us vs rest : List Mark) → IsSingle c → Conjunction P ts us → us ≡ mark_of c ∷ vs
         → Conjunction Q vs rest → R ≡ joined c P Q → Predicate R ts rest
 
--- the greatest nesting and size of a formula
+-- the greatest nesting of a formula
 abbrev pub nesting_limit : ℕ
 nesting_limit = 200
 
+-- the greatest size of a formula, and of a goal
 abbrev pub size_limit : ℕ
 size_limit = 65536
 

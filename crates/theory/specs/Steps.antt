@@ -14,6 +14,7 @@ use Rattle.theory.specs.declared.steps.Applied.TheVariants.{Goals, Left, Refused
 use Rattle.theory.specs.declared.steps.Outcome.{Outcome}
 use Rattle.theory.specs.declared.steps.Outcome.TheVariants.{Complete, Partial, Broken}
 use Rattle.theory.specs.Words.{trimmed, full_lines}
+use Rattle.theory.specs.Formulas.{size_limit}
 
 -- the step that a word is
 abbrev pub step_of : List ℕ → Option Step
@@ -44,10 +45,7 @@ rule_of OrI2 = Some rule.OrI2
 rule_of ImpI = Some rule.ImpI
 rule_of Open = None
 
--- the greatest size and depth of a goal
-abbrev pub size_limit : ℕ
-size_limit = 65536
-
+-- the greatest depth of a goal; its size is bounded as that of a formula is
 abbrev pub depth_limit : ℕ
 depth_limit = 512
 

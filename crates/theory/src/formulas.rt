@@ -13,10 +13,11 @@ use ev_forms::{Connective, make_falsity, make_joined, make_negation, make_truth}
 use ev_terms::{NoMemory, Tree, extent};
 use std::alloc::Global;
 
-/// How deep a formula may be nested, and how many nodes it may have.
+/// How deep a formula may be nested.
 const NESTING_LIMIT: u32 = 200;
 
-const SIZE_LIMIT: u64 = 65_536;
+/// How many nodes a formula or a goal may have.
+pub const SIZE_LIMIT: u64 = 65_536;
 
 /// A kind of formula that a reader looks for.
 #[derive(Debug, Clone, Copy, PartialEq, Eq)]

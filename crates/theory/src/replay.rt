@@ -3,8 +3,10 @@ ghost use Rattle.std.specs.List.{AllByRecursion};
 ghost use Rattle.ev_typing.specs.declared.typing.Sequent.{Sequent};
 ghost use Rattle.ev_typing.specs.Sequents.{◌⊢◌, ◌▹◌, IsWithin};
 ghost use Rattle.ev_kernel.specs.Row.{Row};
-ghost use Rattle.theory.specs.Steps.{ReadsUp, Advances, Applies, Replays, depth_limit, outcome_with, size_limit};
+ghost use Rattle.theory.specs.Formulas.{size_limit};
+ghost use Rattle.theory.specs.Steps.{ReadsUp, Advances, Applies, Replays, depth_limit, outcome_with};
 
+use crate::formulas::SIZE_LIMIT;
 use crate::steps::{Applied, Outcome, Step};
 use ev_forms::{Connective, joined_parts};
 use ev_kernel::{BaseRule, concludes};
@@ -14,9 +16,7 @@ use ev_typing::{Env, Sequent, Sequents, sequent_extent};
 use std::alloc::Global;
 use std::sync::ledger::Ledger;
 
-/// How large a goal may be, and how deep.
-const SIZE_LIMIT: u64 = 65_536;
-
+/// How deep a goal may be.
 const DEPTH_LIMIT: u64 = 512;
 
 /// The sequent with another goal.

@@ -1,9 +1,6 @@
-use Rattle.std.proofs.Common.{◌*◌, ◌+◌, ◌-◌, ◌<◌, ◌≤◌, ◌≡◌, List, drop, length}
-use Rattle.ev_terms.specs.Term.{Term}
+use Rattle.std.proofs.Common.{◌*◌, ◌+◌, ◌-◌, ◌<◌, ◌≤◌, drop, length}
 use Rattle.ev_terms.specs.Measures.{depth}
-use Rattle.theory.specs.declared.marks.Mark.{Mark}
-use Rattle.theory.specs.Formulas.{Literal, Chain}
-use Rattle.theory.specs.Parsing.{StopsBefore}
+use Rattle.theory.specs.Formulas.{Literal}
 use Rattle.theory.proofs.ReadLaws.{Climbs}
 use Rattle.theory.proofs.formulas.+read.Given as goal
 

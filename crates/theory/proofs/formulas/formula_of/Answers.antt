@@ -1,4 +1,4 @@
-use Rattle.std.proofs.Common.{◌≡◌, List, Vec, subst, sym, ap, arith, drop, length, length-drop}
+use Rattle.std.proofs.Common.{Vec, subst, sym, ap, arith, drop, length, length-drop}
 use Rattle.theory.specs.declared.marks.Mark.{Mark}
 use Rattle.theory.specs.declared.formulas.Want.TheVariants as want
 use Rattle.theory.specs.Formulas.{AreMarks}

@@ -1,4 +1,4 @@
-use Rattle.std.proofs.Common.{◌≡◌, ◌≤◌, ℕ, length, ap, arith}
+use Rattle.std.proofs.Common.{◌≡◌, length, ap, arith}
 use Rattle.theory.proofs.MarkLaws.{leads_init, leads_step, leads_end, leads_none, not_none, is_none, length-skip_blanks}
 use Rattle.theory.proofs.marks.marks_of.Goals as goal
 

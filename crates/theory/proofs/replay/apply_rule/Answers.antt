@@ -1,4 +1,4 @@
-use Rattle.std.proofs.Common.{◌≡◌, List, IfNone, subst}
+use Rattle.std.proofs.Common.{List, IfNone, subst}
 use Rattle.ev_typing.specs.declared.typing.Sequent.{Sequent}
 use Rattle.theory.specs.Steps.{ReadsUp}
 use Rattle.theory.proofs.StepLaws.{none_up}

@@ -1,4 +1,4 @@
-use Rattle.std.proofs.Common.{◌≡◌, ◌+◌, List, get_or, length, reverse, drop, refl, ap, arith}
+use Rattle.std.proofs.Common.{◌+◌, get_or, reverse, drop, ap, arith}
 use Rattle.theory.specs.declared.steps.Outcome.TheVariants.{Broken}
 use Rattle.theory.specs.declared.steps.Step.TheVariants.{Hyp}
 use Rattle.theory.specs.declared.steps.Applied.TheVariants.{Refused}

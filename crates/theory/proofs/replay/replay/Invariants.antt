@@ -1,4 +1,4 @@
-use Rattle.std.proofs.Common.{◌+◌, ◌≤◌, ◌≡◌, drop, reverse}
+use Rattle.std.proofs.Common.{◌+◌, ◌≤◌, drop, reverse}
 use Rattle.theory.specs.declared.steps.Outcome.{Outcome}
 use Rattle.theory.specs.Steps.{Replays, ReplaysFrom}
 use Rattle.theory.proofs.replay.replay.Given as goal

@@ -1,4 +1,4 @@
-use Rattle.std.proofs.Common.{◌≡◌, ◌∙◌, ap, arith}
+use Rattle.std.proofs.Common.{◌∙◌, ap, arith}
 use Rattle.theory.specs.Words.{words_of}
 use Rattle.theory.proofs.ScriptLaws.{not_two_words}
 use Rattle.theory.proofs.script.head_of.Goals as goal

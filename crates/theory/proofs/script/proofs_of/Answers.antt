@@ -1,4 +1,3 @@
-use Rattle.std.proofs.Common.{◌≡◌}
 use Rattle.theory.specs.Words.{texts}
 use Rattle.theory.specs.Scripts.{IsUnitAt, IsProof}
 use Rattle.theory.specs.declared.script.UnitSpan.{UnitSpan}

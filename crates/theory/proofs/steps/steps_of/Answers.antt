@@ -1,4 +1,4 @@
-use Rattle.std.proofs.Common.{◌≡◌, ◌+◌, ◌++◌, ◌∷◌, [], ap, subst, sym, ◌∙◌, arith, drop, length}
+use Rattle.std.proofs.Common.{◌+◌, ap, subst, sym, ◌∙◌, arith, drop}
 use Rattle.std.specs.List.{AllZip}
 use Rattle.theory.specs.Words.{texts, piece}
 use Rattle.theory.specs.Steps.{IsStep, step_of}

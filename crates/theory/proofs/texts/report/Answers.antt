@@ -1,5 +1,5 @@
-use Rattle.std.proofs.Common.{◌≡◌, ◌++◌, ◌∙◌, [], ap, sym, subst, length}
-use Rattle.theory.specs.Reports.{HasPredicates, HasStatus, IsReportOf, theory_line, theorem_lines}
+use Rattle.std.proofs.Common.{◌∙◌, ap, sym, subst, length}
+use Rattle.theory.specs.Reports.{HasPredicates, HasStatus, IsReportOf}
 use Rattle.theory.proofs.ReportLaws.{as_many, report_is, text_is}
 use Rattle.theory.proofs.texts.report.Goals as goal
 

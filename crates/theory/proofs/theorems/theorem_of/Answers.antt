@@ -1,4 +1,3 @@
-use Rattle.std.proofs.Common.{◌≡◌}
 use Rattle.theory.proofs.ReadLaws.{none_holds}
 use Rattle.theory.proofs.ReadingLaws.{theorem_none}
 use Rattle.theory.proofs.theorems.theorem_of.Goals as goal

@@ -1,7 +1,5 @@
-use Rattle.std.proofs.Common.{◌≡◌, ◌+◌, ◌++◌, ◌∷◌, [], ap, subst, sym, ◌∙◌, arith, drop, length}
-use Rattle.std.specs.List.{AllZip, list_any}
-use Rattle.std.specs.Prelude.{bytes_eq, true, false, not, if◌then◌else◌}
-use Rattle.ev_terms.specs.declared.strings.Name.{Name}
+use Rattle.std.proofs.Common.{◌+◌, ◌∷◌, [], ap, subst, sym, ◌∙◌, arith, drop}
+use Rattle.std.specs.List.{AllZip}
 use Rattle.theory.specs.declared.theorems.Theorem.{Theorem}
 use Rattle.theory.specs.Words.{texts, piece}
 use Rattle.theory.specs.Theorems.{IsTheorem, AreDifferent, labels_of}
