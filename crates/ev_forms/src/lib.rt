@@ -4,8 +4,6 @@
 
 pub mod connectives;
 pub mod forms;
-#[cfg(test)]
-mod tests;
 
 pub use connectives::{
     Connective, is_falsity, is_truth, joined_parts, make_falsity, make_joined, make_negation,

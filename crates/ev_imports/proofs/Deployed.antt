@@ -3,7 +3,7 @@ use Rattle.std.proofs.Common.{◌≡◌, ℕ, suc, ◌<◌, Bool, true, List, []
 use Rattle.std.proofs.lemmas.Option.{slice_get_within, get_or_from_slice_get}
 use Rattle.ev_imports.specs.Walks.{imports_of, Imports, IsWalk, HasNoCycle, InRange}
 use Rattle.ev_imports.specs.Reached.{is_deployed}
-use Rattle.ev_imports.specs.Listing.{IsDeployedWalk}
+use Rattle.ev_imports.specs.inner.Listing.{IsDeployedWalk}
 use Rattle.ev_imports.proofs.Chain.{IsChain, chain_short}
 
 pub same_import : (graph : List (List ℕ)) (u i v w : ℕ) → Imports graph u i v → Imports graph u i w → v ≡ w

@@ -3,7 +3,7 @@ use Rattle.std.proofs.Common.{◌≡◌, ◌⊎◌, ℕ, ◌<◌, List, [], ◌�
 use Rattle.std.proofs.lemmas.List.{append-nil}
 use Rattle.std.proofs.lemmas.Bool.{cases_lt}
 use Rattle.ev_imports.specs.Cycles.{ComesBefore}
-use Rattle.ev_imports.specs.Listing.{EndsBefore}
+use Rattle.ev_imports.specs.inner.Listing.{EndsBefore}
 
 pub before_trans : (p q r : List ℕ) → ComesBefore p q → ComesBefore q r → ComesBefore p r
 before_trans [] [] r a b = absurd a

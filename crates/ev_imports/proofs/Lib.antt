@@ -6,7 +6,6 @@ pub mod Rows
 pub mod Chain
 pub mod Walking
 pub mod Steps
-pub mod Ordered
 pub mod Lexicographic
 pub mod Deployed
 pub mod Listing

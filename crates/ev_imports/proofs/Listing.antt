@@ -8,7 +8,7 @@ use Rattle.std.proofs.lemmas.Option.{slice_get_within, slice_get-get_or}
 use Rattle.ev_imports.specs.Walks.{imports_of, Imports, HasNoCycle, InRange}
 use Rattle.ev_imports.specs.Cycles.{ComesBefore}
 use Rattle.ev_imports.specs.Reached.{has_number, is_deployed, visit, reached}
-use Rattle.ev_imports.specs.Listing.{IsDeployedWalk, EndsBefore, ListsReached}
+use Rattle.ev_imports.specs.inner.Listing.{IsDeployedWalk, EndsBefore, ListsReached}
 use Rattle.ev_imports.proofs.Lexicographic.{before_trans, before_on, before_right, before_at, before_cases, ends_from_before, ends_on, ends_cases}
 use Rattle.ev_imports.proofs.Deployed.{same_import, walk_on, walk_rest, walk_import, no_return, walk_short}
 use Rattle.ev_imports.proofs.Walking.{visit_entered, visit_skipped}

@@ -6,7 +6,7 @@ use Rattle.std.specs.List.{slice_get}
 use Rattle.ev_imports.specs.declared.cycle.Found.{Found}
 use Rattle.ev_imports.specs.Walks.{imports_of, Imports}
 use Rattle.ev_imports.specs.Cycles.{IsFirstCycle}
-use Rattle.ev_imports.specs.Found.{number_at, IsTrail}
+use Rattle.ev_imports.specs.inner.Found.{number_at, IsTrail}
 use Rattle.ev_imports.proofs.Search.{Searched, search_start, search_known, search_found, search_row, cycle_found, number_kept}
 
 pub record RowSearched (graph : List (List ℕ)) (name : ℕ) (marks : List Bool) (found : List Found) (head next : ℕ) (row : List ℕ) : Type 0 where

@@ -9,7 +9,7 @@ use Rattle.std.specs.List.{count_by}
 use Rattle.ev_imports.specs.declared.cycle.Found.{Found}
 use Rattle.ev_imports.specs.Walks.{imports_of, Imports, IsCycle, HasNoCycle}
 use Rattle.ev_imports.specs.Cycles.{IsFirstCycle}
-use Rattle.ev_imports.specs.Found.{no_found, number_at, parent_at, ParentsFall, IsTrail}
+use Rattle.ev_imports.specs.inner.Found.{no_found, number_at, parent_at, ParentsFall, IsTrail}
 use Rattle.ev_imports.proofs.Order.{Earlier, NotLater, not_later_trans, earlier_cons, not_later_cons, earlier_next, earlier_past, not_later_length, not_before}
 use Rattle.ev_imports.proofs.Backward.{Arrives, Leads, arrives_from_walk, walk_from_leads}
 

@@ -2,7 +2,7 @@
 use Rattle.std.proofs.Common.{◌≡◌, ℕ, zero, suc, ◌<◌, List, [], ◌∷◌, ◌++◌, length, reverse, refl, sym, ap, subst, arith}
 use Rattle.std.proofs.lemmas.List.{append_assoc}
 use Rattle.ev_imports.specs.declared.cycle.Found.{Found}
-use Rattle.ev_imports.specs.Found.{number_at, parent_at, ParentsFall, IsTrail}
+use Rattle.ev_imports.specs.inner.Found.{number_at, parent_at, ParentsFall, IsTrail}
 
 pub record TrailSoFar (found : List Found) (from last place : ℕ) (walk : List ℕ) : Type 0 where
   pub taken : List ℕ

@@ -1,7 +1,7 @@
 ghost use Rattle.std.specs.Prelude.{◌≡◌, ◌<◌, ℕ, List, ◌∷◌, reverse, length, slice_set, IfOk, IfSome, IfNone};
 ghost use Rattle.ev_imports.specs.Walks.{AreBelow, InRange, HasNoCycle};
 ghost use Rattle.ev_imports.specs.Cycles.{IsFirstCycle};
-ghost use Rattle.ev_imports.specs.Found.{ParentsFall, IsTrail};
+ghost use Rattle.ev_imports.specs.inner.Found.{ParentsFall, IsTrail};
 
 use crate::Graph;
 use crate::lists::append;

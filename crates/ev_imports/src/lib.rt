@@ -15,6 +15,3 @@ pub type Graph = ListOf<Ids>;
 
 /// For each number whether it is deployed.
 pub type Flags = ListOf<bool>;
-
-#[cfg(test)]
-mod tests;

@@ -2,7 +2,7 @@ ghost use Rattle.std.specs.Prelude.{◌≡◌, ◌<◌, ℕ, [], length, IfOk};
 ghost use Rattle.std.specs.List.{concat};
 ghost use Rattle.ev_imports.specs.Walks.{imports_of, InRange, HasNoCycle};
 ghost use Rattle.ev_imports.specs.Reached.{reached, reached_by_each};
-ghost use Rattle.ev_imports.specs.Listing.{ListsReached};
+ghost use Rattle.ev_imports.specs.inner.Listing.{ListsReached};
 
 use crate::lists::append;
 use crate::{Flags, Graph};

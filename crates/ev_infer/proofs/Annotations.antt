@@ -4,7 +4,7 @@ use Rattle.std.proofs.Common.{ap, sym, ◌∙◌, inl, inr, subst as transport}
 use Rattle.ev_terms.specs.declared.extents.Extent.{Extent}
 use Rattle.ev_terms.specs.declared.types.Ty.{Ty}
 use Rattle.ev_terms.specs.Term.{Term, var, lit, node}
-use Rattle.ev_raw.specs.Raw.{Raw}
+use Rattle.ev_syntax.specs.Raw.{Raw}
 use Rattle.ev_typing.specs.declared.typing.Var.{Var}
 use Rattle.ev_typing.specs.Env.{Env}
 use Rattle.ev_typing.specs.Typing.{Typed}
@@ -12,21 +12,21 @@ use Rattle.ev_typing.specs.Proper.{HasProperSignatures}
 use Rattle.ev_typing.specs.WellFormed.{IsWellFormed}
 use Rattle.ev_typing.proofs.ProperSignatures.{signatures_proper}
 use Rattle.ev_typing.proofs.Laws.{Typed-unique}
-use Rattle.ev_annotate.specs.declared.faults.InferFault.TheVariants.{Unknown, Taken, IllTyped, Ambiguous, TooLarge, NoMemory}
-use Rattle.ev_annotate.specs.declared.faults.InferFault.{InferFault}
-use Rattle.ev_annotate.specs.Reading.{Variable, context_of}
-use Rattle.ev_annotate.specs.Annotates.{HasTakenBinder, variables_context}
-use Rattle.ev_annotate.specs.Bare.{Bare, bare_var, bare_lit, bare_node, bare_of, Fits}
-use Rattle.ev_annotate.specs.Resolve.{known_of, forget, resolve}
-use Rattle.ev_annotate.specs.Inference.{IsAnnotation, HasNoAnnotation, IsOnlyAnnotation}
-use Rattle.ev_annotate.proofs.Sound.{some_gives}
-use Rattle.ev_annotate.proofs.ToBare.{to_bare}
-use Rattle.ev_annotate.proofs.Inference.{context_reverse, good_reverse}
-use Rattle.ev_annotate.proofs.RawAnswers.{no_bare}
+use Rattle.ev_infer.specs.declared.faults.InferFault.TheVariants.{Unknown, Taken, IllTyped, Ambiguous, TooLarge, NoMemory}
+use Rattle.ev_infer.specs.declared.faults.InferFault.{InferFault}
+use Rattle.ev_resolve.specs.Reading.{Variable, context_of}
+use Rattle.ev_infer.specs.Annotates.{HasTakenBinder, variables_context}
+use Rattle.ev_resolve.specs.Bare.{Bare, bare_var, bare_lit, bare_node, bare_of, Fits}
+use Rattle.ev_resolve.specs.Resolve.{known_of, forget, resolve}
+use Rattle.ev_infer.specs.Inference.{IsAnnotation, HasNoAnnotation, IsOnlyAnnotation}
+use Rattle.ev_infer.proofs.Sound.{some_gives}
+use Rattle.ev_infer.proofs.ToBare.{to_bare}
+use Rattle.ev_infer.proofs.Inferring.{context_reverse, good_reverse}
+use Rattle.ev_infer.proofs.RawAnswers.{no_bare}
 use Rattle.ev_infer.specs.Answers.{variables, IsFound}
-use Rattle.ev_infer.specs.Marked.{is_marked, uses_marked}
-use Rattle.ev_infer.specs.Mended.{mended}
-use Rattle.ev_infer.specs.Variables.{is_name, IsVariable, FitsAsked, StandsAlone, IsVariableAnswer}
+use Rattle.ev_infer.specs.inner.Marked.{is_marked, uses_marked}
+use Rattle.ev_infer.specs.inner.Mended.{mended}
+use Rattle.ev_infer.specs.inner.Variables.{is_name, IsVariable, FitsAsked, StandsAlone, IsVariableAnswer}
 use Rattle.ev_infer.proofs.Both.{AreAlike, gives_move}
 use Rattle.ev_infer.proofs.Retyped.{retyped, no_variable_result, used_clash, unused_typed}
 use Rattle.ev_infer.proofs.VariableSteps.{one_variable}
@@ -108,7 +108,7 @@ module _ (env : Env) (params : List (List ℕ)) (raw : Raw) (expected : Option T
     -- no bare term, no annotation
     pub none_found : resolve params (known_of env) raw (map forget (reverse here)) ≡ None → HasNoAnnotation env params here raw expected
     none_found e t a = elim (by_form t) as (λ _. ⊥) [
-      | inl (i, q) ↦ no_some _ (sym e ∙ (reads_variable env params (known_of env) raw (reverse here) i (transport (λ x. Rattle.ev_annotate.specs.Reading.Gives params (known_of env) (Typed env) raw (reverse here) x) q a.annotates.gives)).resolved)
+      | inl (i, q) ↦ no_some _ (sym e ∙ (reads_variable env params (known_of env) raw (reverse here) i (transport (λ x. Rattle.ev_resolve.specs.Reading.Gives params (known_of env) (Typed env) raw (reverse here) x) q a.annotates.gives)).resolved)
       | inr n ↦ no_bare env params there raw expected (λ m p h. signatures (Rattle.ev_terms.specs.declared.types.Sym.TheVariants.User m) p h) (mended_proper env vars) (sym (ap (resolve params (known_of env) raw) (alike env vars)) ∙ e) t (to_mended t a n)
     ]
       where
@@ -119,7 +119,7 @@ module _ (env : Env) (params : List (List ℕ)) (raw : Raw) (expected : Option T
       -- an annotation that is a variable stands alone in the raw tree
       alone : (t : Term) (a : Annotation here t) (i : ℕ) → t ≡ var i → (is_name raw ≡ true) × IsVariable b C i
       alone t a i q =
-          let r = reads_variable env params (known_of env) raw (reverse here) i (transport (λ x. Rattle.ev_annotate.specs.Reading.Gives params (known_of env) (Typed env) raw (reverse here) x) q a.annotates.gives) in
+          let r = reads_variable env params (known_of env) raw (reverse here) i (transport (λ x. Rattle.ev_resolve.specs.Reading.Gives params (known_of env) (Typed env) raw (reverse here) x) q a.annotates.gives) in
           (r.name, transport (λ x. IsVariable x C i) (some_gives _ _ (sym resolved ∙ r.resolved)) r.is_variable)
 
       -- where no marked variable is used

@@ -5,7 +5,7 @@ use Rattle.std.proofs.lemmas.List.Folds.{Any-from_list_any, list_any-from_Any}
 use Rattle.ev_terms.specs.declared.extents.Extent.{Extent}
 use Rattle.ev_terms.specs.declared.types.Ty.{Ty}
 use Rattle.ev_terms.specs.Term.{Term}
-use Rattle.ev_raw.specs.Raw.{Raw}
+use Rattle.ev_syntax.specs.Raw.{Raw}
 use Rattle.ev_typing.specs.declared.typing.Var.{Var}
 use Rattle.ev_typing.specs.Env.{Env}
 use Rattle.ev_typing.specs.Typing.{Typed}
@@ -14,22 +14,24 @@ use Rattle.ev_typing.specs.WellFormed.{IsWellFormed}
 use Rattle.ev_typing.proofs.ProperSignatures.{signatures_proper}
 use Rattle.ev_terms.specs.declared.types.Sym.TheVariants.{User}
 use Rattle.ev_unify.specs.declared.patterns.Pat.{Pat}
-use Rattle.ev_annotate.specs.declared.faults.InferFault.{InferFault}
-use Rattle.ev_annotate.specs.declared.faults.InferFault.TheVariants.{Unknown, Taken, IllTyped, Ambiguous, TooLarge, NoMemory}
-use Rattle.ev_annotate.specs.Annotates.{is_formula_name, used_names, binder_names, variable_names, HasUnknownName, HasTakenBinder, variables_context}
-use Rattle.ev_annotate.specs.Reading.{Variable}
-use Rattle.ev_annotate.proofs.Values.{map-reverse}
-use Rattle.ev_annotate.specs.Bare.{Bare}
-use Rattle.ev_annotate.specs.Resolve.{known_of, forget, resolve}
-use Rattle.ev_annotate.specs.Inference.{variable_patterns, takes_name, bare_equations, HasNoAnnotation}
-use Rattle.ev_annotate.specs.Answering.{OnFault, IsGiven}
-use Rattle.ev_annotate.specs.Laws.{AnswersOf}
-use Rattle.ev_annotate.proofs.RawAnswers.{answers as answers_of_bare}
-use Rattle.ev_names.specs.Unknown.{is_unknown, uses_unknown}
+use Rattle.ev_infer.specs.declared.faults.InferFault.{InferFault}
+use Rattle.ev_infer.specs.declared.faults.InferFault.TheVariants.{Unknown, Taken, IllTyped, Ambiguous, TooLarge, NoMemory}
+use Rattle.ev_resolve.specs.UsedNames.{is_formula_name, used_names, binder_names, variable_names}
+use Rattle.ev_infer.specs.Annotates.{HasUnknownName, HasTakenBinder, variables_context}
+use Rattle.ev_resolve.specs.Reading.{Variable}
+use Rattle.ev_infer.proofs.Values.{map-reverse}
+use Rattle.ev_resolve.specs.Bare.{Bare}
+use Rattle.ev_resolve.specs.Resolve.{known_of, forget, resolve}
+use Rattle.ev_resolve.specs.TakenNames.{takes_name}
+use Rattle.ev_infer.specs.Inference.{variable_patterns, bare_equations, HasNoAnnotation}
+use Rattle.ev_infer.specs.inner.Answering.{OnFault, IsGiven}
+use Rattle.ev_infer.specs.Laws.{AnswersOf}
+use Rattle.ev_infer.proofs.RawAnswers.{answers as answers_of_bare}
+use Rattle.ev_resolve.specs.inner.Unknown.{is_unknown, uses_unknown}
 use Rattle.ev_infer.specs.Answers.{variables, IsUnknown, IsTaken, IsFound, IsFoundOf, IsAnswer}
-use Rattle.ev_infer.specs.Marked.{uses_marked}
-use Rattle.ev_infer.specs.Mended.{marked, mended}
-use Rattle.ev_infer.specs.Variables.{IsVariableAnswer}
+use Rattle.ev_infer.specs.inner.Marked.{uses_marked}
+use Rattle.ev_infer.specs.inner.Mended.{marked, mended}
+use Rattle.ev_infer.specs.inner.Variables.{IsVariableAnswer}
 use Rattle.ev_infer.proofs.MendedTypes.{mended_proper, alike, marks}
 use Rattle.ev_infer.proofs.Annotations.{none_found, unused, variable_answers, found_move}
 

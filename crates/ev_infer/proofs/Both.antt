@@ -9,19 +9,19 @@ use Rattle.ev_terms.specs.Term.{Term, Terms, var, node, nil, cons}
 use Rattle.ev_terms.specs.Symbols.{binds}
 use Rattle.ev_terms.specs.Subst.{type_inst, type_at}
 use Rattle.ev_syntax.specs.Marks.{open_brace, union_over_word}
-use Rattle.ev_raw.specs.Raw.{Binder, Pattern, bound, pair, pattern_binders, Raw, Raws, word, literal, param, type_set, call, around, unary, binary, inverse, apply, image, of_type, quantified, set_of, collected, lambda, members, written, none, one}
+use Rattle.ev_syntax.specs.Raw.{Binder, Pattern, bound, pair, pattern_binders, Raw, Raws, word, literal, param, type_set, call, around, unary, binary, inverse, apply, image, of_type, quantified, set_of, collected, lambda, members, written, none, one}
 use Rattle.ev_forms.specs.Base as base
 use Rattle.ev_forms.specs.Base.{at_type, leaf, with_one, with_two}
 use Rattle.ev_typing.specs.Profiles.{Profile}
 use Rattle.ev_typing.specs.Env.{Env, profile}
 use Rattle.ev_typing.specs.Typing.{IsProper, inside, Typed, AreTyped}
 use Rattle.ev_typing.proofs.Laws.{Typed-unique}
-use Rattle.ev_annotate.specs.Reading.{Known, Variable, context_of, Meaning, variable, predicate, parameter, symbol, nothing, meaning, Plain, infix_symbols, prefix_symbols, around_symbols, entry_of, and_not, IsPlain, two_terms, swaps, quantifier, binder_of, unnamed, IsCall, count_of, IsCollected, is_z, Binds, IsPattern, Gives, GivesAll, GivesMembers}
-use Rattle.ev_annotate.specs.Resolve.{forget}
-use Rattle.ev_annotate.proofs.Sound.{some_gives}
-use Rattle.ev_annotate.proofs.Complete.{some_and}
-use Rattle.ev_annotate.proofs.Nodes.{inside_plain, inside_binder, IsBinder, for_some_binder, set_binder, quantifier_binder, BindNone, infix_plain, prefix_plain, around_plain, binds_not, binds_and, binds_or, binds_equal, binds_maps_to, binds_apply, binds_image, binds_inverse, binds_user, binds_over}
-use Rattle.ev_annotate.proofs.ToBare.{context_bound, meaning_forget}
+use Rattle.ev_resolve.specs.Reading.{Known, Variable, context_of, Meaning, variable, predicate, parameter, symbol, nothing, meaning, Plain, infix_symbols, prefix_symbols, around_symbols, entry_of, and_not, IsPlain, two_terms, swaps, quantifier, binder_of, unnamed, IsCall, count_of, IsCollected, is_z, Binds, IsPattern, Gives, GivesAll, GivesMembers}
+use Rattle.ev_resolve.specs.Resolve.{forget}
+use Rattle.ev_infer.proofs.Sound.{some_gives}
+use Rattle.ev_infer.proofs.Complete.{some_and}
+use Rattle.ev_infer.proofs.Nodes.{inside_plain, inside_binder, IsBinder, for_some_binder, set_binder, quantifier_binder, BindNone, infix_plain, prefix_plain, around_plain, binds_not, binds_and, binds_or, binds_equal, binds_maps_to, binds_apply, binds_image, binds_inverse, binds_user, binds_over}
+use Rattle.ev_infer.proofs.ToBare.{context_bound, meaning_forget}
 
 abbrev pub Both : Env → List Ty → List Ty → Term → Type 0
 Both env C D t = (A : Ty) × Typed env C t A × Typed env D t A

@@ -8,13 +8,13 @@ use Rattle.ev_typing.specs.Env.{Env}
 use Rattle.ev_typing.specs.Proper.{is_result}
 use Rattle.ev_typing.proofs.Names.{drop_at, drop_all}
 use Rattle.ev_unify.specs.declared.patterns.Pat.{Pat, Int as IntPat}
-use Rattle.ev_annotate.proofs.Values.{map-reverse}
-use Rattle.ev_annotate.specs.Equations.{same_pattern}
-use Rattle.ev_annotate.specs.Reading.{Variable, context_type}
-use Rattle.ev_annotate.specs.Resolve.{forget_type, forget}
-use Rattle.ev_reading.specs.declared.names.ScopeVariable.{ScopeVariable}
-use Rattle.ev_reading.specs.Scopes.{seen, scope_of}
-use Rattle.ev_infer.specs.Mended.{mended_type}
+use Rattle.ev_infer.proofs.Values.{map-reverse}
+use Rattle.ev_infer.specs.Equations.{same_pattern}
+use Rattle.ev_resolve.specs.Reading.{Variable, context_type}
+use Rattle.ev_resolve.specs.Resolve.{forget_type, forget}
+use Rattle.ev_resolve.specs.declared.names.ScopeVariable.{ScopeVariable}
+use Rattle.ev_resolve.specs.inner.Scopes.{seen, scope_of}
+use Rattle.ev_infer.specs.inner.Mended.{mended_type}
 
 pub ruleset names = (drop_at, drop_all, reverse-append)
 

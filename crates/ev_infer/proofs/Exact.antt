@@ -4,12 +4,12 @@ use Rattle.std.proofs.Common.{sym, ◌∙◌, subst as transport}
 use Rattle.ev_terms.specs.declared.extents.Extent.{Extent}
 use Rattle.ev_terms.specs.declared.types.Ty.{Ty}
 use Rattle.ev_terms.specs.Term.{Term}
-use Rattle.ev_raw.specs.Raw.{Raw}
+use Rattle.ev_syntax.specs.Raw.{Raw}
 use Rattle.ev_typing.specs.declared.typing.Var.{Var}
 use Rattle.ev_typing.specs.Env.{Env}
-use Rattle.ev_annotate.specs.declared.faults.InferFault.{InferFault}
-use Rattle.ev_annotate.specs.declared.faults.InferFault.TheVariants.{Unknown, Taken, IllTyped, Ambiguous, TooLarge, NoMemory}
-use Rattle.ev_annotate.specs.Annotates.{IsPast}
+use Rattle.ev_infer.specs.declared.faults.InferFault.{InferFault}
+use Rattle.ev_infer.specs.declared.faults.InferFault.TheVariants.{Unknown, Taken, IllTyped, Ambiguous, TooLarge, NoMemory}
+use Rattle.ev_infer.specs.Annotates.{IsPast}
 use Rattle.ev_infer.specs.Answers.{IsUnknown, IsTaken, IsIllTyped, IsAmbiguous, IsTooLarge, IsAnnotated, IsAnswer}
 
 module _ (env : Env) (params : List (List ℕ)) (vars : List Var) (raw : Raw) (expected : Option Ty) (limit : Extent) where

@@ -7,8 +7,8 @@ use Rattle.ev_terms.specs.declared.types.Sym.{Sym}
 use Rattle.ev_terms.specs.declared.types.Sym.TheVariants.{Base, User}
 use Rattle.ev_terms.specs.Symbols.{binds}
 use Rattle.ev_typing.proofs.Names.{drop_at, drop_all}
-use Rattle.ev_annotate.proofs.EmissionSteps.{height_at}
-use Rattle.ev_infer.specs.Marked.{is_marked, unmarked}
+use Rattle.ev_infer.proofs.EmissionSteps.{height_at}
+use Rattle.ev_infer.specs.inner.Marked.{is_marked, unmarked}
 
 pub mark_inside : (marks : List Bool) (i : ℕ) → i < length marks → get_or marks (length marks - 1 - i) false ≡ is_marked (reverse marks) i
 mark_inside marks i h = sym (unwrap_or-slice_get (reverse marks) i false ∙ get_or-reverse marks i false h)

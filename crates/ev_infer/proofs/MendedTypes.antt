@@ -9,13 +9,13 @@ use Rattle.ev_typing.specs.Env.{Env}
 use Rattle.ev_typing.specs.Typing.{var_type}
 use Rattle.ev_typing.specs.Proper.{IsResult, is_result}
 use Rattle.ev_typing.proofs.Proper.{result_from_test, test_from_result}
-use Rattle.ev_annotate.specs.Reading.{Variable, context_type, context_of}
-use Rattle.ev_annotate.specs.Resolve.{forget_type, forget}
-use Rattle.ev_annotate.specs.Inference.{HaveProperTypes}
-use Rattle.ev_annotate.proofs.Values.{map-reverse}
+use Rattle.ev_resolve.specs.Reading.{Variable, context_type, context_of}
+use Rattle.ev_resolve.specs.Resolve.{forget_type, forget}
+use Rattle.ev_infer.specs.Inference.{HaveProperTypes}
+use Rattle.ev_infer.proofs.Values.{map-reverse}
 use Rattle.ev_infer.specs.Answers.{variable, variables}
-use Rattle.ev_infer.specs.Marked.{is_marked}
-use Rattle.ev_infer.specs.Mended.{marked, mended_type, mended}
+use Rattle.ev_infer.specs.inner.Marked.{is_marked}
+use Rattle.ev_infer.specs.inner.Mended.{marked, mended_type, mended}
 use Rattle.ev_infer.proofs.Both.{AreAlike}
 use Rattle.ev_infer.proofs.Retyped.{Keeps, Apart}
 

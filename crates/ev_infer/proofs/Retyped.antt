@@ -16,10 +16,10 @@ use Rattle.ev_typing.specs.Typing.{AreProper, inside, var_type, Typed, AreTyped}
 use Rattle.ev_typing.specs.Proper.{IsResult, HasProperSignatures}
 use Rattle.ev_typing.proofs.Proper.{result_inst}
 use Rattle.ev_typing.proofs.Keeps.{inside_length}
-use Rattle.ev_annotate.specs.Bare.{Bare, Bares, bare_var, bare_lit, bare_node, bare_of, bare_none, bare_more, Fits, FitAll}
-use Rattle.ev_annotate.proofs.Sound.{some_gives}
-use Rattle.ev_annotate.proofs.Complete.{some_and}
-use Rattle.ev_infer.specs.Marked.{is_marked, unmarked, uses_marked, use_marked}
+use Rattle.ev_resolve.specs.Bare.{Bare, Bares, bare_var, bare_lit, bare_node, bare_of, bare_none, bare_more, Fits, FitAll}
+use Rattle.ev_infer.proofs.Sound.{some_gives}
+use Rattle.ev_infer.proofs.Complete.{some_and}
+use Rattle.ev_infer.specs.inner.Marked.{is_marked, unmarked, uses_marked, use_marked}
 
 -- a typed node by its signature
 some_to : {X : Type 0} (P : X → Type 0) (o : Option X) (x : X) → o ≡ Some x → P x → IsSomeAnd o P

@@ -6,10 +6,10 @@ use Rattle.std.proofs.lemmas.List.{get_or-reverse, length-reverse}
 use Rattle.std.proofs.lemmas.Option.{slice_get-get_or, slice_get_within}
 use Rattle.ev_terms.specs.declared.types.Ty.{Ty}
 use Rattle.ev_typing.specs.Typing.{var_type}
-use Rattle.ev_raw.specs.Raw.{Raw, call}
-use Rattle.ev_raw.specs.RawView.{raws}
-use Rattle.ev_annotate.specs.Bare.{Bare, bare_var, bare_lit, bare_node, bare_of}
-use Rattle.ev_infer.specs.Variables.{is_name, IsVariable, FitsAsked, StandsAlone}
+use Rattle.ev_syntax.specs.Raw.{Raw, call}
+use Rattle.ev_syntax.specs.inner.RawView.{raws}
+use Rattle.ev_resolve.specs.Bare.{Bare, bare_var, bare_lit, bare_node, bare_of}
+use Rattle.ev_infer.specs.inner.Variables.{is_name, IsVariable, FitsAsked, StandsAlone}
 
 pub type_inside : (C : List Ty) (i : ℕ) (A : Ty) → A ≡ get_or C (length C - 1 - i) A → i < length C → var_type C i ≡ Some A
 type_inside C i A e h =

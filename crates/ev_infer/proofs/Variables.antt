@@ -7,18 +7,18 @@ use Rattle.ev_terms.specs.declared.types.Sym.{Sym}
 use Rattle.ev_terms.specs.declared.types.Sym.TheVariants.{User}
 use Rattle.ev_terms.specs.Term.{Term, Terms, var, node, nil, cons}
 use Rattle.ev_syntax.specs.Marks.{open_brace, union_over_word}
-use Rattle.ev_raw.specs.Raw.{Raw, Raws, word, literal, param, type_set, call, around, unary, binary, inverse, apply, image, of_type, quantified, set_of, collected, lambda, members, written, none, one}
+use Rattle.ev_syntax.specs.Raw.{Raw, Raws, word, literal, param, type_set, call, around, unary, binary, inverse, apply, image, of_type, quantified, set_of, collected, lambda, members, written, none, one}
 use Rattle.ev_forms.specs.Base as base
 use Rattle.ev_forms.specs.Base.{at_type, with_one}
 use Rattle.ev_typing.specs.Env.{Env}
 use Rattle.ev_typing.specs.Typing.{Typed}
-use Rattle.ev_annotate.specs.Reading.{Known, Variable, context_of, Meaning, variable, predicate, parameter, symbol, nothing, meaning, Plain, infix_symbols, prefix_symbols, around_symbols, word_symbols, entry_of, and_not, IsPlain, IsWord, unnamed, IsCollected, Binds, IsCall, count_of, Gives}
-use Rattle.ev_annotate.specs.Bare.{Bare, bare_var, bare_node, bare_none, bare_of}
-use Rattle.ev_annotate.specs.Resolve.{bare_leaf, application_bare, call_bare, forget, resolve}
-use Rattle.ev_annotate.proofs.Sound.{some_gives}
-use Rattle.ev_annotate.proofs.ToBare.{meaning_forget, both_to}
-use Rattle.ev_annotate.proofs.FromBare.{both_gives}
-use Rattle.ev_infer.specs.Variables.{is_name, IsVariable}
+use Rattle.ev_resolve.specs.Reading.{Known, Variable, context_of, Meaning, variable, predicate, parameter, symbol, nothing, meaning, Plain, infix_symbols, prefix_symbols, around_symbols, word_symbols, entry_of, and_not, IsPlain, IsWord, unnamed, IsCollected, Binds, IsCall, count_of, Gives}
+use Rattle.ev_resolve.specs.Bare.{Bare, bare_var, bare_node, bare_none, bare_of}
+use Rattle.ev_resolve.specs.Resolve.{bare_leaf, application_bare, call_bare, forget, resolve}
+use Rattle.ev_infer.proofs.Sound.{some_gives}
+use Rattle.ev_infer.proofs.ToBare.{meaning_forget, both_to}
+use Rattle.ev_infer.proofs.FromBare.{both_gives}
+use Rattle.ev_infer.specs.inner.Variables.{is_name, IsVariable}
 
 no_node : (i : ℕ) (s : Sym) (As : Tys) (ts : Terms) → var i ≡ node s As ts → ⊥
 no_node i s As ts e = cc

@@ -3,17 +3,18 @@ use Rattle.std.specs.Prelude.{◌≡◌, ℕ, false, List, map, reverse, Option,
 use Rattle.ev_terms.specs.declared.extents.Extent.{Extent}
 use Rattle.ev_terms.specs.declared.types.Ty.{Ty}
 use Rattle.ev_terms.specs.Term.{Term}
-use Rattle.ev_raw.specs.Raw.{Raw}
+use Rattle.ev_syntax.specs.Raw.{Raw}
 use Rattle.ev_typing.specs.declared.typing.Var.{Var}
 use Rattle.ev_typing.specs.Env.{Env}
 use Rattle.ev_typing.specs.Typing.{Typed}
-use Rattle.ev_annotate.specs.declared.faults.InferFault.{InferFault}
-use Rattle.ev_annotate.specs.declared.faults.InferFault.TheVariants.{Unknown, Taken, IllTyped, Ambiguous, TooLarge, NoMemory}
-use Rattle.ev_annotate.specs.Reading.{Variable}
-use Rattle.ev_annotate.specs.Annotates as annotates
-use Rattle.ev_annotate.specs.Resolve.{known_of, forget, resolve}
-use Rattle.ev_annotate.specs.Bare.{Bare}
-use Rattle.ev_annotate.specs.Inference.{takes_name, HasNoAnnotation, HasTwoAnnotations, IsOnlyAnnotation}
+use Rattle.ev_infer.specs.declared.faults.InferFault.{InferFault}
+use Rattle.ev_infer.specs.declared.faults.InferFault.TheVariants.{Unknown, Taken, IllTyped, Ambiguous, TooLarge, NoMemory}
+use Rattle.ev_resolve.specs.Reading.{Variable}
+use Rattle.ev_infer.specs.Annotates as annotates
+use Rattle.ev_resolve.specs.Resolve.{known_of, forget, resolve}
+use Rattle.ev_resolve.specs.Bare.{Bare}
+use Rattle.ev_resolve.specs.TakenNames.{takes_name}
+use Rattle.ev_infer.specs.Inference.{HasNoAnnotation, HasTwoAnnotations, IsOnlyAnnotation}
 
 -- a variable whose name a text can use
 abbrev pub variable : Var → Variable

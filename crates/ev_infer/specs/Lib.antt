@@ -1,4 +1,6 @@
+pub mod Annotates
+pub mod Equations
+pub mod Inference
+pub mod Laws
 pub mod Answers
-pub mod Marked
-pub mod Mended
-pub mod Variables
+pub mod inner

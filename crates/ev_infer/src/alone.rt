@@ -1,10 +1,11 @@
 //! Names that stand alone for a variable.
 ghost use Rattle.std.specs.Prelude.{◌≡◌, ◌↔◌, ℕ, IsTrue, IfSome, IfNone};
 ghost use Rattle.std.specs.Option.{option_copied};
-ghost use Rattle.ev_infer.specs.Variables.{is_name, IsVariable, FitsAsked, IsVariableAnswer};
+ghost use Rattle.ev_infer.specs.inner.Variables.{is_name, IsVariable, FitsAsked, IsVariableAnswer};
 
-use ev_annotate::{Bare, BareForm, InferFault};
-use ev_raw::{Raw, RawForm};
+use crate::faults::InferFault;
+use ev_resolve::{Bare, BareForm};
+use ev_syntax::{Raw, RawForm};
 use ev_terms::{Extent, Same, Tree, Ty, make_var};
 use std::alloc::Global;
 

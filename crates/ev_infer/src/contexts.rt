@@ -1,17 +1,18 @@
 //! The variables of a call as names, as a scope and as a context.
 ghost use Rattle.std.specs.Prelude.{◌≡◌, map, reverse, IfOk};
-ghost use Rattle.ev_annotate.specs.Reading.{context_type};
-ghost use Rattle.ev_annotate.specs.Annotates.{variable_names, variables_context};
-ghost use Rattle.ev_annotate.specs.Equations.{same_pattern};
-ghost use Rattle.ev_annotate.specs.Inference.{variable_patterns};
-ghost use Rattle.ev_annotate.specs.Resolve.{forget};
-ghost use Rattle.ev_reading.specs.Scopes.{seen, scope_of};
+ghost use Rattle.ev_resolve.specs.Reading.{context_type};
+ghost use Rattle.ev_resolve.specs.UsedNames.{variable_names};
+ghost use Rattle.ev_infer.specs.Annotates.{variables_context};
+ghost use Rattle.ev_infer.specs.Equations.{same_pattern};
+ghost use Rattle.ev_infer.specs.Inference.{variable_patterns};
+ghost use Rattle.ev_resolve.specs.Resolve.{forget};
+ghost use Rattle.ev_resolve.specs.inner.Scopes.{seen, scope_of};
 ghost use Rattle.ev_typing.specs.Proper.{is_result};
 ghost use Rattle.ev_infer.specs.Answers.{variable, variables};
-ghost use Rattle.ev_infer.specs.Mended.{marked, mended_type, mended};
+ghost use Rattle.ev_infer.specs.inner.Mended.{marked, mended_type, mended};
 
-use ev_annotate::same_pattern;
-use ev_reading::ScopeVariable;
+use crate::same_pattern;
+use ev_resolve::ScopeVariable;
 use ev_terms::{ListOf, Name, NoMemory, TryCopy, Ty};
 use ev_typing::{Env, Var, is_proper};
 use ev_unify::Pat;
@@ -80,7 +81,7 @@ fn context_pattern(alloc: Global, env: &Env, ty: &Ty) -> Result<Pat, NoMemory>
 }
 
 /// Whether a type is one of the environment, or `Prop`.
-#[tactic(auto, using(ev_annotate::proofs::PatternSteps::results))]
+#[tactic(auto, using(crate::proofs::PatternSteps::results))]
 fn is_result(env: &Env, ty: &Ty) -> bool
     ensures { result ≡ is_result env.now ty.now }
 {

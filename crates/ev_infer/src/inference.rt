@@ -1,19 +1,19 @@
 //! Inference.
 ghost use Rattle.std.specs.Prelude.{◌≡◌, ◌≢◌, ◌↔◌, false, Err, IfOk};
 ghost use Rattle.std.specs.Option.{option_copied};
-ghost use Rattle.ev_annotate.specs.Inference.{takes_name};
-ghost use Rattle.ev_annotate.specs.declared.faults.InferFault.TheVariants as fault;
+ghost use Rattle.ev_resolve.specs.TakenNames.{takes_name};
+ghost use Rattle.ev_infer.specs.declared.faults.InferFault.TheVariants as fault;
 ghost use Rattle.ev_infer.specs.Answers.{IsUnknown, IsTaken, IsIllTyped, IsAmbiguous, IsTooLarge, IsAnnotated, IsFound, IsFoundOf, IsAnswer, variables};
-ghost use Rattle.ev_infer.specs.Variables.{IsVariableAnswer};
-ghost use Rattle.ev_annotate.specs.Annotates.{variables_context};
+ghost use Rattle.ev_infer.specs.inner.Variables.{IsVariableAnswer};
+ghost use Rattle.ev_infer.specs.Annotates.{variables_context};
 
 use crate::alone::variable_answer;
+use crate::annotation::annotate;
 use crate::contexts::{context_of, marks_of, names_of, scope_of, types_of};
+use crate::faults::InferFault;
 use crate::marked::uses_marked;
-use ev_annotate::{Bare, InferFault, annotate};
-use ev_names::{has_taken_binder, has_unknown_name};
-use ev_raw::Raw;
-use ev_reading::resolve;
+use ev_resolve::{Bare, has_taken_binder, has_unknown_name, resolve};
+use ev_syntax::Raw;
 use ev_terms::{Extent, Names, Tree, Ty};
 use ev_typing::{Env, Var, Vars};
 use std::alloc::Global;

@@ -1,11 +1,11 @@
 //! Which variables a bare term uses.
 ghost use Rattle.std.specs.Prelude.{◌≡◌, reverse, IfOk, OnOk};
-ghost use Rattle.ev_annotate.specs.BareView.{bares};
-ghost use Rattle.ev_infer.specs.Marked.{is_marked, uses_marked, use_marked, unmarked};
+ghost use Rattle.ev_resolve.specs.inner.BareView.{bares};
+ghost use Rattle.ev_infer.specs.inner.Marked.{is_marked, uses_marked, use_marked, unmarked};
 ghost use Rattle.ev_terms.specs.Symbols.{binds};
 ghost use Rattle.std.specs.Prelude.{◌++◌};
 
-use ev_annotate::{Bare, BareForm};
+use ev_resolve::{Bare, BareForm};
 use ev_terms::{NoMemory, Sym, binds};
 
 /// Whether a bare term uses a variable that has a mark, where the outermost variable's mark stands first. Linear in the bare term.

@@ -12,6 +12,3 @@ pub mod rules;
 
 pub use derivations::{lines_are_derivable, wholes_keep_derivable};
 pub use rules::{BaseRule, Line, Lines, concludes, infers};
-
-#[cfg(test)]
-mod tests;

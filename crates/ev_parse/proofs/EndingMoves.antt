@@ -4,14 +4,14 @@ use Rattle.std.specs.Prelude.{not, ◌==◌, ◌||◌}
 use Rattle.std.proofs.lemmas.Bool.{eqb-true}
 use Rattle.ev_syntax.specs.Marks.{product_sign, open_paren, inverse_sign, and_sign, or_word, implies_sign}
 use Rattle.ev_syntax.specs.Tokens.{Token, name, number, mark}
-use Rattle.ev_raw.specs.TypeParser.{begins}
-use Rattle.ev_raw.specs.Looking.{operator_of, is_from, first_operator, goes_on}
-use Rattle.ev_raw.specs.FormulaParser.{is_relation, connects}
-use Rattle.ev_raw.specs.declared.sorts.Sort.{Sort}
-use Rattle.ev_raw.specs.declared.sorts.Sort.TheVariants.{Pred, Expr, Either, TypeText}
-use Rattle.ev_raw.proofs.WholeParser.{or_false}
-use Rattle.ev_raw.proofs.WholeLiterals.{StopsPred}
-use Rattle.ev_raw.proofs.OneTree.{StopsAs}
+use Rattle.ev_syntax.specs.inner.TypeParser.{begins}
+use Rattle.ev_syntax.specs.inner.Looking.{operator_of, is_from, first_operator, goes_on}
+use Rattle.ev_syntax.specs.inner.FormulaParser.{is_relation, connects}
+use Rattle.ev_syntax.specs.declared.sorts.Sort.{Sort}
+use Rattle.ev_syntax.specs.declared.sorts.Sort.TheVariants.{Pred, Expr, Either, TypeText}
+use Rattle.ev_syntax.proofs.WholeParser.{or_false}
+use Rattle.ev_syntax.proofs.WholeLiterals.{StopsPred}
+use Rattle.ev_syntax.proofs.OneTree.{StopsAs}
 use Rattle.ev_parse.specs.Items.{ends}
 
 -- what does not go on with a formula

@@ -6,13 +6,13 @@ use Rattle.std.proofs.lemmas.List.{length-map, take-map, drop-take}
 use Rattle.ev_syntax.specs.Views.{seen_in, all_seen_in}
 use Rattle.ev_syntax.specs.declared.kinds as kinds
 use Rattle.ev_syntax.specs.Tokens.{Token, tokens_of}
-use Rattle.ev_raw.specs.Raw.{Raw, nesting}
-use Rattle.ev_raw.specs.declared.pieces.Piece.{Piece}
-use Rattle.ev_raw.specs.declared.sorts.Sort.{Sort}
-use Rattle.ev_raw.specs.declared.faults.ParseFault.{ParseFault}
-use Rattle.ev_raw.specs.declared.faults.ParseFault.TheVariants.{Syntax, TooDeep, NoMemory}
-use Rattle.ev_raw.specs.Parses.{Parses, IsRun, IsLongestRun}
-use Rattle.ev_raw.proofs.Runs.{as_shrinks, only_longest}
+use Rattle.ev_syntax.specs.Raw.{Raw, nesting}
+use Rattle.ev_syntax.specs.declared.read_pieces.Piece.{Piece}
+use Rattle.ev_syntax.specs.declared.sorts.Sort.{Sort}
+use Rattle.ev_syntax.specs.declared.parse_faults.ParseFault.{ParseFault}
+use Rattle.ev_syntax.specs.declared.parse_faults.ParseFault.TheVariants.{Syntax, TooDeep, NoMemory}
+use Rattle.ev_syntax.specs.Parses.{Parses, IsRun, IsLongestRun}
+use Rattle.ev_syntax.proofs.RunLaws.{as_shrinks, only_longest}
 use Rattle.ev_parse.specs.Items.{ItemAnswer}
 use Rattle.ev_parse.specs.Wholes.{WholeAnswer}
 use Rattle.ev_parse.specs.Fronts.{FrontAnswer, IsFrontResult}

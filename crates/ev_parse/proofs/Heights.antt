@@ -1,9 +1,9 @@
 -- A member of a list is no higher than the list.
 use Rattle.std.proofs.Common.{◌≡◌, ℕ, zero, suc, ◌<◌, ◌≤◌, List, [], ◌∷◌, length, get_or, ap, arith}
-use Rattle.ev_raw.specs.Raw.{Raw, RawType}
-use Rattle.ev_raw.specs.RawView.{raws, height, heights}
-use Rattle.ev_raw.specs.TypeView.{raw_types, types_height}
-use Rattle.ev_raw.specs.TypeView as types
+use Rattle.ev_syntax.specs.Raw.{Raw, RawType}
+use Rattle.ev_syntax.specs.inner.RawView.{raws, height, heights}
+use Rattle.ev_syntax.specs.inner.TypeView.{raw_types, types_height}
+use Rattle.ev_syntax.specs.inner.TypeView as types
 
 pub raw_at : (es : List Raw) (i : ℕ) (e : Raw) → e ≡ get_or es i e → i < length es → height e ≤ heights (raws es)
 raw_at [] i e q h = absurd (omega (arith, h))

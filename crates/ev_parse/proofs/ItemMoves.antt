@@ -2,19 +2,19 @@
 use Rattle.std.proofs.Common.{◌≡◌, ℕ, ◌-◌, ◌≤◌, ◌<◌, Bool, true, false, List, length, drop, refl, ap, subst, arith, length-drop}
 use Rattle.std.specs.Prelude.{Option, Some, None}
 use Rattle.ev_syntax.specs.Tokens.{Token}
-use Rattle.ev_raw.specs.Raw.{RawType, Raw, written, nesting}
-use Rattle.ev_raw.specs.Pieces.{IsPiece}
-use Rattle.ev_raw.specs.declared.pieces.Piece.{Piece}
-use Rattle.ev_raw.specs.Finding.{Found, Comes}
-use Rattle.ev_raw.specs.FormulaParser.{parse, level, a_pred}
-use Rattle.ev_raw.specs.TypeParser.{parse_type, a_type}
-use Rattle.ev_raw.specs.declared.sorts.Sort.{Sort}
-use Rattle.ev_raw.specs.declared.sorts.Sort.TheVariants.{Pred, Expr, TypeText}
-use Rattle.ev_raw.specs.Parses.{ReadsAs, IsRun}
-use Rattle.ev_raw.proofs.Comes.{pred_run_answer, expr_run_answer, type_answer}
-use Rattle.ev_raw.proofs.Answers.{pred_sound, expr_sound, type_sound}
-use Rattle.ev_raw.proofs.Runs.{front_run, run_front}
-use Rattle.ev_raw.proofs.OneTree.{IsType, is_type}
+use Rattle.ev_syntax.specs.Raw.{RawType, Raw, written, nesting}
+use Rattle.ev_syntax.specs.inner.Pieces.{IsPiece}
+use Rattle.ev_syntax.specs.declared.read_pieces.Piece.{Piece}
+use Rattle.ev_syntax.specs.inner.Finding.{Found, Comes}
+use Rattle.ev_syntax.specs.inner.FormulaParser.{parse, level, a_pred}
+use Rattle.ev_syntax.specs.inner.TypeParser.{parse_type, a_type}
+use Rattle.ev_syntax.specs.declared.sorts.Sort.{Sort}
+use Rattle.ev_syntax.specs.declared.sorts.Sort.TheVariants.{Pred, Expr, TypeText}
+use Rattle.ev_syntax.specs.Parses.{ReadsAs, IsRun}
+use Rattle.ev_syntax.proofs.Comes.{pred_run_answer, expr_run_answer, type_answer}
+use Rattle.ev_syntax.proofs.Answers.{pred_sound, expr_sound, type_sound}
+use Rattle.ev_syntax.proofs.RunLaws.{front_run, run_front}
+use Rattle.ev_syntax.proofs.OneTree.{IsType, is_type}
 use Rattle.ev_parse.specs.Items.{ends, ItemAnswer}
 use Rattle.ev_parse.proofs.EndingMoves.{ends_stops}
 

@@ -1,3 +1,14 @@
+pub mod Operators
+pub mod RawNesting
+pub mod ClosingMoves
+pub mod LevelMoves
+pub mod BraceMoves
+pub mod ListMoves
+pub mod OperandMoves
+pub mod PredicateMoves
+pub mod RelationMoves
+pub mod Stacks
+pub mod FormulaProgress
 pub mod EndingMoves
 pub mod ItemMoves
 pub mod WholeMoves

@@ -3,14 +3,14 @@ use Rattle.std.proofs.Common.{◌≡◌, ℕ, ◌+◌, ◌-◌, ◌≤◌, ◌<�
 use Rattle.std.specs.Prelude.{Some, None, Result, Ok, Err, ◌≢◌, ◌↔◌}
 use Rattle.std.proofs.lemmas.List.{take_all, drop_all, drop-drop}
 use Rattle.ev_syntax.specs.Tokens.{Token}
-use Rattle.ev_raw.specs.Raw.{Raw, nesting}
-use Rattle.ev_raw.specs.declared.pieces.Piece.{Piece}
-use Rattle.ev_raw.specs.declared.sorts.Sort.{Sort}
-use Rattle.ev_raw.specs.declared.faults.ParseFault.{ParseFault}
-use Rattle.ev_raw.specs.declared.faults.ParseFault.TheVariants.{Syntax, TooDeep, NoMemory}
-use Rattle.ev_raw.specs.Parses.{Parses, IsRun, IsLongestRun}
-use Rattle.ev_raw.proofs.OneTree.{at_most_one_tree}
-use Rattle.ev_raw.proofs.Runs.{longest_by_stop}
+use Rattle.ev_syntax.specs.Raw.{Raw, nesting}
+use Rattle.ev_syntax.specs.declared.read_pieces.Piece.{Piece}
+use Rattle.ev_syntax.specs.declared.sorts.Sort.{Sort}
+use Rattle.ev_syntax.specs.declared.parse_faults.ParseFault.{ParseFault}
+use Rattle.ev_syntax.specs.declared.parse_faults.ParseFault.TheVariants.{Syntax, TooDeep, NoMemory}
+use Rattle.ev_syntax.specs.Parses.{Parses, IsRun, IsLongestRun}
+use Rattle.ev_syntax.proofs.OneTree.{at_most_one_tree}
+use Rattle.ev_syntax.proofs.RunLaws.{longest_by_stop}
 use Rattle.ev_parse.specs.Items.{ends, ItemAnswer}
 use Rattle.ev_parse.specs.Wholes.{WholeAnswer, IsFormulaResult}
 use Rattle.ev_parse.proofs.EndingMoves.{ends_stops}

@@ -1,13 +1,13 @@
 -- The longest runs of tokens from a place on that are formulas.
 use Rattle.std.specs.Prelude.{ℕ, ◌-◌, ◌≤◌, ◌<◌, List, length, Option, Some, None, Result, Ok, Err}
 use Rattle.ev_syntax.specs.Tokens.{Token}
-use Rattle.ev_raw.specs.Raw.{Raw, nesting}
-use Rattle.ev_raw.specs.Pieces.{IsPiece}
-use Rattle.ev_raw.specs.declared.pieces.Piece.{Piece}
-use Rattle.ev_raw.specs.declared.sorts.Sort.{Sort}
-use Rattle.ev_raw.specs.declared.faults.ParseFault.{ParseFault}
-use Rattle.ev_raw.specs.declared.faults.ParseFault.TheVariants.{Syntax, TooDeep, NoMemory}
-use Rattle.ev_raw.specs.Parses.{IsRun, IsLongestRun}
+use Rattle.ev_syntax.specs.Raw.{Raw, nesting}
+use Rattle.ev_syntax.specs.inner.Pieces.{IsPiece}
+use Rattle.ev_syntax.specs.declared.read_pieces.Piece.{Piece}
+use Rattle.ev_syntax.specs.declared.sorts.Sort.{Sort}
+use Rattle.ev_syntax.specs.declared.parse_faults.ParseFault.{ParseFault}
+use Rattle.ev_syntax.specs.declared.parse_faults.ParseFault.TheVariants.{Syntax, TooDeep, NoMemory}
+use Rattle.ev_syntax.specs.Parses.{IsRun, IsLongestRun}
 
 -- no run of tokens from the place on is a formula of the sort
 abbrev pub HasNoRun : List Token → ℕ → Sort → Type 0

@@ -1,13 +1,13 @@
 -- Formulas that stand where none of their sort goes on: before a comma, a keyword, another closing sign, or at the end of the tokens.
 use Rattle.std.specs.Prelude.{◌≡◌, ℕ, ◌-◌, ◌≤◌, ◌<◌, Bool, true, not, ◌||◌, List, Option, Some, None, drop, length}
 use Rattle.ev_syntax.specs.Tokens.{Token}
-use Rattle.ev_raw.specs.Raw.{Raw, nesting}
-use Rattle.ev_raw.specs.Pieces.{IsPiece}
-use Rattle.ev_raw.specs.declared.pieces.Piece.{Piece}
-use Rattle.ev_raw.specs.declared.sorts.Sort.{Sort}
-use Rattle.ev_raw.specs.Parses.{IsRun}
-use Rattle.ev_raw.specs.Looking.{goes_on}
-use Rattle.ev_raw.specs.FormulaParser.{is_relation, connects}
+use Rattle.ev_syntax.specs.Raw.{Raw, nesting}
+use Rattle.ev_syntax.specs.inner.Pieces.{IsPiece}
+use Rattle.ev_syntax.specs.declared.read_pieces.Piece.{Piece}
+use Rattle.ev_syntax.specs.declared.sorts.Sort.{Sort}
+use Rattle.ev_syntax.specs.Parses.{IsRun}
+use Rattle.ev_syntax.specs.inner.Looking.{goes_on}
+use Rattle.ev_syntax.specs.inner.FormulaParser.{is_relation, connects}
 
 -- no formula and no type goes on with what stands first: it is no infix or postfix sign, no sign of a relation and no connective
 abbrev pub ends : List Token → Bool

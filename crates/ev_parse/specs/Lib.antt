@@ -1,3 +1,4 @@
 pub mod Items
 pub mod Wholes
 pub mod Fronts
+pub mod inner

@@ -1,13 +1,13 @@
 -- Formulas that are all of some tokens.
 use Rattle.std.specs.Prelude.{ℕ, ◌≤◌, ◌<◌, List, Option, Some, None, Result, Ok, Err}
 use Rattle.ev_syntax.specs.Tokens.{Token}
-use Rattle.ev_raw.specs.Raw.{Raw, nesting}
-use Rattle.ev_raw.specs.Pieces.{IsPiece}
-use Rattle.ev_raw.specs.declared.pieces.Piece.{Piece}
-use Rattle.ev_raw.specs.declared.sorts.Sort.{Sort}
-use Rattle.ev_raw.specs.declared.faults.ParseFault.{ParseFault}
-use Rattle.ev_raw.specs.declared.faults.ParseFault.TheVariants.{Syntax, TooDeep, NoMemory}
-use Rattle.ev_raw.specs.Parses.{Parses}
+use Rattle.ev_syntax.specs.Raw.{Raw, nesting}
+use Rattle.ev_syntax.specs.inner.Pieces.{IsPiece}
+use Rattle.ev_syntax.specs.declared.read_pieces.Piece.{Piece}
+use Rattle.ev_syntax.specs.declared.sorts.Sort.{Sort}
+use Rattle.ev_syntax.specs.declared.parse_faults.ParseFault.{ParseFault}
+use Rattle.ev_syntax.specs.declared.parse_faults.ParseFault.TheVariants.{Syntax, TooDeep, NoMemory}
+use Rattle.ev_syntax.specs.Parses.{Parses}
 
 -- the formula of the sort that all the tokens are
 abbrev pub WholeAnswer : Sort → ℕ → List Token → Option (Piece Raw) → Type 0

@@ -2,8 +2,9 @@
 ghost use Rattle.std.specs.Prelude.{◌≡◌, drop};
 ghost use Rattle.ev_parse.specs.Items.{ends};
 
-use ev_formulas::{connects, goes_on};
-use ev_raw::Reader;
+use crate::literal_steps::connects;
+use crate::predicate_reader::goes_on;
+use ev_syntax::Reader;
 
 /// Whether no formula goes on with what stands at a place.
 pub(crate) fn ends_at(reader: &Reader<'_>, at: usize) -> bool

@@ -3,14 +3,13 @@ ghost use Rattle.std.specs.Prelude.{◌≡◌, ◌≢◌, ◌↔◌, ◌≤◌, 
 ghost use Rattle.std.specs.List.{All};
 ghost use Rattle.ev_syntax.specs.Views.{LiesIn, all_seen_in};
 ghost use Rattle.ev_syntax.specs.Tokens.{tokens_of};
-ghost use Rattle.ev_raw.specs.Raw.{Raw as RawTree, nesting};
-ghost use Rattle.ev_raw.specs.Parses.{Parses};
+ghost use Rattle.ev_syntax.specs.Raw.{Raw as RawTree, nesting};
+ghost use Rattle.ev_syntax.specs.Parses.{Parses};
 ghost use Rattle.ev_parse.specs.Wholes.{WholeAnswer, IsFormulaResult};
 
+use crate::closings::closings_of;
 use crate::items::read_item;
-use ev_formulas::closings_of;
-use ev_raw::{ParseFault, Piece, Raw, Reader, Sort};
-use ev_syntax::Tokens;
+use ev_syntax::{ParseFault, Piece, Raw, Reader, Sort, Tokens};
 use ev_terms::NoMemory;
 use std::alloc::Global;
 

@@ -3,15 +3,14 @@ ghost use Rattle.std.specs.Prelude.{◌≡◌, ◌≢◌, ◌↔◌, ◌≤◌, 
 ghost use Rattle.std.specs.List.{All};
 ghost use Rattle.ev_syntax.specs.Views.{LiesIn, all_seen_in};
 ghost use Rattle.ev_syntax.specs.Tokens.{tokens_of};
-ghost use Rattle.ev_raw.specs.Raw.{Raw as RawTree, nesting};
-ghost use Rattle.ev_raw.specs.Parses.{IsRun, IsLongestRun};
+ghost use Rattle.ev_syntax.specs.Raw.{Raw as RawTree, nesting};
+ghost use Rattle.ev_syntax.specs.Parses.{IsRun, IsLongestRun};
 ghost use Rattle.ev_parse.specs.Fronts.{FrontAnswer, IsFrontResult};
 
+use crate::closings::closings_of;
 use crate::formula::read_whole;
 use crate::items::read_item;
-use ev_formulas::closings_of;
-use ev_raw::{ParseFault, Piece, Raw, Reader, Sort};
-use ev_syntax::{Token, Tokens};
+use ev_syntax::{ParseFault, Piece, Raw, Reader, Sort, Token, Tokens};
 use ev_terms::NoMemory;
 use std::alloc::Global;
 

@@ -1,15 +1,16 @@
 //! Formulas among other tokens.
 ghost use Rattle.std.specs.Prelude.{◌≡◌, ◌≤◌, ◌<◌, ◌+◌, ℕ, length, IfOk, Some};
-ghost use Rattle.ev_formulas.specs.Closings.{IsTable};
-ghost use Rattle.ev_formulas.specs.Forms.{IsRaw};
-ghost use Rattle.ev_raw.specs.Raw.{Raw as RawTree, RawType as WrittenType, nesting, type_nesting, written};
-ghost use Rattle.ev_raw.specs.Pieces.{IsPiece};
+ghost use Rattle.ev_parse.specs.inner.Closings.{IsTable};
+ghost use Rattle.ev_parse.specs.inner.Forms.{IsRaw};
+ghost use Rattle.ev_syntax.specs.Raw.{Raw as RawTree, RawType as WrittenType, nesting, type_nesting, written};
+ghost use Rattle.ev_syntax.specs.inner.Pieces.{IsPiece};
 ghost use Rattle.ev_parse.specs.Items.{ItemAnswer};
 
 use crate::endings::ends_at;
-use ev_formulas::{RawPiece, read_expression, read_predicate};
-use ev_raw::type_reader::read_type;
-use ev_raw::{Piece, Raw, RawForm, RawType, Reader, Sort};
+use crate::formula_reader::{read_expression, read_predicate};
+use crate::states::RawPiece;
+use ev_syntax::type_reader::read_type;
+use ev_syntax::{Piece, Raw, RawForm, RawType, Reader, Sort};
 use ev_terms::NoMemory;
 use std::alloc::Global;
 

@@ -25,11 +25,11 @@ use Rattle.ev_typing.proofs.TypeInstances.{profile_bounded}
 use Rattle.ev_syntax.specs.Names.{is_name}
 use Rattle.ev_syntax.specs.Tokens.{Token, name, number, Tokens, AreTokens, tokens_of, HasTooLarge, is_too_large}
 use Rattle.ev_syntax.proofs.Continuing.{text_tokens_same}
-use Rattle.ev_raw.specs.Raw.{Raw, call, literal, none}
-use Rattle.ev_raw.specs.Parts.{Part, is_predicate, may_have_level, post_level, may_be_name}
-use Rattle.ev_raw.specs.Grammar.{Reads}
-use Rattle.ev_raw.specs.Parses.{Parses}
-use Rattle.ev_raw.proofs.OneTree.{at_most_one_tree}
+use Rattle.ev_syntax.specs.Raw.{Raw, call, literal, none}
+use Rattle.ev_syntax.specs.Parts.{Part, is_predicate, may_have_level, post_level, may_be_name}
+use Rattle.ev_syntax.specs.Grammar.{Reads}
+use Rattle.ev_syntax.specs.Parses.{Parses}
+use Rattle.ev_syntax.proofs.OneTree.{at_most_one_tree}
 use Rattle.ev_print.specs.Styles.{base_style, is_closed}
 use Rattle.ev_print.specs.Canon.{Piece, variable_text, first_type, written_symbol, is_closed_symbol, symbol_shows_type, leaves_open, annotation, annotated, piece, pieces}
 use Rattle.ev_print.specs.Texts.{raw_symbol, raw_annotated, first_variable, raw_term, raw_terms}

@@ -18,7 +18,7 @@ use Rattle.ev_syntax.specs.Chars.{SpellChars, is_blank, starts_name, is_word, is
 use Rattle.ev_syntax.specs.Marks.{signs, spellings, reserved_words, minus_sign}
 use Rattle.ev_syntax.specs.Tokens.{Token, name, number, mark, row_of, is_token, token_of, mark_or, decimal_value, Spanned, AreTokens, tokens_of, is_too_large}
 use Rattle.ev_syntax.specs.Names.{is_name}
-use Rattle.ev_syntax.specs.Places.{Stops}
+use Rattle.ev_syntax.specs.inner.Places.{Stops}
 use Rattle.ev_syntax.proofs.RowLemmas.{row_passes, row_of-at, none_by}
 use Rattle.ev_syntax.proofs.Fronts.{within_run, row_ascii, row_of-encodes, spelled_token}
 use Rattle.ev_syntax.proofs.NameLemmas.{word_reserved}

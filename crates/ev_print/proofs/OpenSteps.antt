@@ -25,7 +25,7 @@ use Rattle.ev_print.specs.declared.styles.Style.{Style}
 use Rattle.ev_print.specs.declared.styles.Style.TheVariants.{Application}
 use Rattle.ev_print.specs.Styles.{base_styles, shows_type}
 use Rattle.ev_print.specs.Canon.{leaves_open, annotation, symbol_shows_type}
-use Rattle.ev_print.specs.OpenTypes.{open_type}
+use Rattle.ev_print.specs.inner.OpenTypes.{open_type}
 use Rattle.ev_print.proofs.Rows.{both}
 
 pub ruleset forms = (Pow-pow, Prod-prod)

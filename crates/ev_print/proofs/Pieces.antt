@@ -14,10 +14,10 @@ use Rattle.ev_syntax.specs.Chars.{is_word, starts_name}
 use Rattle.ev_syntax.specs.Marks.{reserved_words, open_paren, close_paren, oftype_word}
 use Rattle.ev_syntax.specs.Tokens.{row_of, Token, mark}
 use Rattle.ev_syntax.specs.Names.{is_name}
-use Rattle.ev_raw.specs.Raw.{Raw, of_type}
-use Rattle.ev_raw.specs.Parts.{Part, expr, expr_level, map_level, function_level, inside}
-use Rattle.ev_raw.specs.Grammar.{◌then◌, Reads}
-use Rattle.ev_raw.proofs.Wrapping.{paren_raw}
+use Rattle.ev_syntax.specs.Raw.{Raw, of_type}
+use Rattle.ev_syntax.specs.Parts.{Part, expr, expr_level, map_level, function_level, inside}
+use Rattle.ev_syntax.specs.Grammar.{◌then◌, Reads}
+use Rattle.ev_syntax.proofs.Wrapping.{paren_raw}
 use Rattle.ev_print.specs.Canon.{Piece, in_parens, operand_text, function_text, annotated, type_text}
 use Rattle.ev_print.specs.Texts.{raw_annotated, raw_type}
 use Rattle.ev_print.proofs.Lexing.{Lex, Breaks, StartsOther, after_any, after_word, any_breaks}

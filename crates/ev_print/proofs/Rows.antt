@@ -8,7 +8,7 @@ use Rattle.ev_terms.specs.declared.types.Ty.{Ty, Prop}
 use Rattle.ev_typing.specs.Profiles.{Profile, base_profiles, base_profile}
 use Rattle.ev_syntax.specs.Marks.{spellings, for_all_sign, for_some_sign, true_word, false_word, true_value_word, false_value_word, int_word, bool_set_word, nat_word, nat1_word, id_word, prj1_word, prj2_word, finite_word, bool_word, pow_word, union_word, inter_word, dom_word, ran_word, card_word, min_word, max_word}
 use Rattle.ev_syntax.specs.Tokens.{row_of}
-use Rattle.ev_raw.specs.Parts.{Part, pred, conj, conj_or_tail, ands, ors, lit, lit_or_quant, expr, expr_level, post_level, function_level, Operands, operands, is_predicate, may_have_level, is_expression, is_among, inside}
+use Rattle.ev_syntax.specs.Parts.{Part, pred, conj, conj_or_tail, ands, ors, lit, lit_or_quant, expr, expr_level, post_level, function_level, Operands, operands, is_predicate, may_have_level, is_expression, is_among, inside}
 use Rattle.ev_print.specs.declared.styles.Style.{Style}
 use Rattle.ev_print.specs.declared.styles.Style.TheVariants.{Word, Braces, Infix, Not, Minus, Inverse, Around, Quantifier, SetFormer, Whole, Image, Application}
 use Rattle.ev_print.specs.Styles.{base_styles, base_style, spelled, is_closed, shows_type}

@@ -18,9 +18,9 @@ use Rattle.ev_typing.specs.Env.{Env, profile}
 use Rattle.ev_terms.proofs.Children.{depth_at, drop_at, drop_all}
 use Rattle.ev_typing.proofs.Checks.{inner_depth}
 use Rattle.ev_print.specs.Styles.{base_style, is_closed}
-use Rattle.ev_print.specs.OpenTypes.{open_type, closed_term, function_term, type_word_text}
+use Rattle.ev_print.specs.inner.OpenTypes.{open_type, closed_term, function_term, type_word_text}
 use Rattle.ev_print.specs.declared.styles.Style.TheVariants.{Infix, Image, Application}
-use Rattle.ev_print.specs.Lists.{after_commas}
+use Rattle.ev_print.specs.inner.Lists.{after_commas}
 use Rattle.ev_print.proofs.TypeSteps.{list_gives}
 use Rattle.ev_print.proofs.Rows.{is_prop, both, base_row}
 

@@ -9,7 +9,7 @@ use Rattle.ev_terms.specs.declared.types.Tys.TheVariants.{More}
 use Rattle.ev_terms.specs.Types.{pow, prod, Pow-pow, Prod-prod, More-more}
 use Rattle.ev_terms.specs.Measures.{type_size, types_size}
 use Rattle.ev_print.specs.Canon.{is_product, type_text, type_texts, with_commas, in_parens, called_text}
-use Rattle.ev_print.specs.Lists.{after_commas}
+use Rattle.ev_print.specs.inner.Lists.{after_commas}
 
 pub type_text-Pow : (a : Ty) → type_text (Pow a) ≡ type_text (pow a)
 type_text-Pow a = ap type_text (Pow-pow a)

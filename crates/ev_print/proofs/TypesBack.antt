@@ -11,8 +11,8 @@ use Rattle.ev_typing.specs.Typing.{IsProper, AreProper}
 use Rattle.ev_syntax.specs.Marks.{open_paren, close_paren, comma, product_sign, int_word, bool_set_word, pow_word, param_sign}
 use Rattle.ev_syntax.specs.Tokens.{Token, name, number, mark}
 use Rattle.ev_syntax.specs.Names.{is_name}
-use Rattle.ev_raw.specs.Grammar.{Is, ◌then◌, ReadsType, ReadsMoreTypes}
-use Rattle.ev_raw.proofs.Wrapping.{paren_type}
+use Rattle.ev_syntax.specs.Grammar.{Is, ◌then◌, ReadsType, ReadsMoreTypes}
+use Rattle.ev_syntax.proofs.Wrapping.{paren_type}
 use Rattle.unicode_ident.proofs.Computing.{unicode_ident}
 use Rattle.ev_print.specs.Canon.{in_parens, with_commas, param_text, is_product, factor, type_text, type_texts}
 use Rattle.ev_print.specs.Texts.{raw_type, raw_types}

@@ -12,11 +12,11 @@ use Rattle.ev_syntax.specs.Marks.{not_word, minus_sign, inverse_sign, open_paren
 use Rattle.ev_syntax.specs.Tokens.{Token, name, number, mark, row_of}
 use Rattle.ev_syntax.specs.Marks.{spellings}
 use Rattle.ev_syntax.specs.Names.{is_name}
-use Rattle.ev_raw.specs.Raw.{Raw, word, param, type_set, call, around, unary, binary, inverse, apply, image, quantified, set_of, members, none, one}
-use Rattle.ev_raw.specs.Parts.{Part, pred, conj, conj_or_tail, ands, ors, expr, expr_level, post_level, function_level, power_level, Operands, operands, operand, around_operand, is_predicate, is_expression, is_among, may_be_word, may_be_name}
-use Rattle.ev_raw.specs.Parts as parts
-use Rattle.ev_raw.specs.Grammar.{Is, ◌then◌, Reads, ReadsMore, ReadsBinder}
-use Rattle.ev_raw.proofs.Wrapping.{with_one, with_two}
+use Rattle.ev_syntax.specs.Raw.{Raw, word, param, type_set, call, around, unary, binary, inverse, apply, image, quantified, set_of, members, none, one}
+use Rattle.ev_syntax.specs.Parts.{Part, pred, conj, conj_or_tail, ands, ors, expr, expr_level, post_level, function_level, power_level, Operands, operands, operand, around_operand, is_predicate, is_expression, is_among, may_be_word, may_be_name}
+use Rattle.ev_syntax.specs.Parts as parts
+use Rattle.ev_syntax.specs.Grammar.{Is, ◌then◌, Reads, ReadsMore, ReadsBinder}
+use Rattle.ev_syntax.proofs.Wrapping.{with_one, with_two}
 use Rattle.ev_print.specs.declared.styles.Style.{Style}
 use Rattle.ev_print.specs.declared.styles.Style.TheVariants.{Word, Braces, Infix, Not, Minus, Inverse, Around, Quantifier, SetFormer, Whole, Image, Application}
 use Rattle.ev_print.specs.Styles.{spelled, is_closed}

@@ -9,10 +9,10 @@ use Rattle.ev_typing.specs.Typing.{Typed}
 use Rattle.ev_typing.specs.WellFormed.{IsWellFormed}
 use Rattle.ev_syntax.specs.Names.{is_name, is_variable_name}
 use Rattle.ev_syntax.specs.Tokens.{Token, Tokens, HasTooLarge}
-use Rattle.ev_raw.specs.Raw.{Raw}
-use Rattle.ev_raw.specs.declared.sorts.Sort.{Sort}
-use Rattle.ev_raw.specs.declared.sorts.Sort.TheVariants.{Pred, Expr}
-use Rattle.ev_raw.specs.Parses.{Parses}
+use Rattle.ev_syntax.specs.Raw.{Raw}
+use Rattle.ev_syntax.specs.declared.sorts.Sort.{Sort}
+use Rattle.ev_syntax.specs.declared.sorts.Sort.TheVariants.{Pred, Expr}
+use Rattle.ev_syntax.specs.Parses.{Parses}
 use Rattle.ev_print.specs.Canon.{canon}
 use Rattle.ev_print.specs.Texts.{raw_term}
 

@@ -9,7 +9,7 @@ use Rattle.ev_terms.specs.Term.{Term, Terms, var, lit, node, nil, cons}
 use Rattle.ev_terms.specs.Symbols.{binds}
 use Rattle.ev_typing.specs.Env.{Env, profile}
 use Rattle.ev_syntax.specs.Marks.{not_word, minus_sign, int_word, bool_set_word}
-use Rattle.ev_raw.specs.Raw.{RawType, RawTypes, int_type, bool_type, param_type, named_type, pow_type, prod_type, no_types, one_type, Binder, Raw, Raws, word, literal, param, type_set, call, around, unary, binary, inverse, apply, image, of_type, quantified, set_of, members, none, one}
+use Rattle.ev_syntax.specs.Raw.{RawType, RawTypes, int_type, bool_type, param_type, named_type, pow_type, prod_type, no_types, one_type, Binder, Raw, Raws, word, literal, param, type_set, call, around, unary, binary, inverse, apply, image, of_type, quantified, set_of, members, none, one}
 use Rattle.ev_print.specs.declared.styles.Style.{Style}
 use Rattle.ev_print.specs.declared.styles.Style.TheVariants.{Word, Infix, Not, Minus, Inverse, Around, Quantifier, SetFormer, Whole, Image, Application}
 use Rattle.ev_print.specs.Styles.{base_style}

@@ -8,7 +8,7 @@ ghost use Rattle.ev_typing.specs.Profiles.{base_profile};
 ghost use Rattle.ev_typing.specs.TypeLists.{own_types};
 ghost use Rattle.ev_typing.specs.Env.{look_up, find_symbol, con_symbols, symbols, own_type, profile, con_profile, signature_profile, symbol_profile};
 ghost use Rattle.ev_print.specs.Canon.{annotation, leaves_open};
-ghost use Rattle.ev_print.specs.OpenTypes.{open_type};
+ghost use Rattle.ev_print.specs.inner.OpenTypes.{open_type};
 
 use crate::params::{fields_leave_open, types_leave_open};
 use ev_terms::{Name, NoMemory, Shared, Sym, TryCopy, Ty, Tys, instantiate_type};

@@ -7,8 +7,6 @@ pub mod laws;
 mod params;
 pub mod styles;
 pub mod terms;
-#[cfg(test)]
-mod tests;
 pub mod type_texts;
 
 pub use laws::text_reads_back;

@@ -7,8 +7,8 @@ ghost use Rattle.ev_typing.specs.Env.{profile};
 ghost use Rattle.ev_print.specs.declared.styles.Style.TheVariants.{Infix, Not, Minus, Inverse, Around, Quantifier, SetFormer, Image, Application};
 ghost use Rattle.ev_print.specs.Styles.{spelled};
 ghost use Rattle.ev_print.specs.Canon.{in_parens, with_commas, called_text, operand_text, function_text, texts, variable_text, first_type, bound_text, whole_text, written, written_symbol, piece, pieces, canon};
-ghost use Rattle.ev_print.specs.Lists.{after_commas};
-ghost use Rattle.ev_print.specs.OpenTypes.{closed_term, function_term, type_word_text};
+ghost use Rattle.ev_print.specs.inner.Lists.{after_commas};
+ghost use Rattle.ev_print.specs.inner.OpenTypes.{closed_term, function_term, type_word_text};
 
 use crate::annotations::{annotation, open_type};
 use crate::buffer::{append, append_number};

@@ -2,7 +2,7 @@
 ghost use Rattle.std.specs.Prelude.{◌≡◌, ◌++◌, ◌∷◌, IfOk, OnOk};
 ghost use Rattle.ev_terms.specs.Types.{pow, prod};
 ghost use Rattle.ev_print.specs.Canon.{param_text, is_product, factor, called_text, in_parens, type_text, type_texts, with_commas};
-ghost use Rattle.ev_print.specs.Lists.{after_commas};
+ghost use Rattle.ev_print.specs.inner.Lists.{after_commas};
 
 use crate::buffer::{append, append_number};
 use ev_terms::{Bytes, Name, NoMemory, Ty, Tys};

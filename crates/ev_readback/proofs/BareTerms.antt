@@ -21,8 +21,8 @@ use Rattle.ev_typing.specs.WellFormed.{IsWellFormed}
 use Rattle.ev_typing.proofs.Proper.{and_split, proper_inst}
 use Rattle.ev_typing.proofs.ProperSignatures.{signatures_proper}
 use Rattle.ev_typing.proofs.Laws.{Typed-unique}
-use Rattle.ev_annotate.specs.Bare.{Bare, Bares, bare_var, bare_lit, bare_node, bare_of, bare_none, bare_more, IsGiven, Fits, FitAll}
-use Rattle.ev_annotate.proofs.Nodes.{inside_plain, one_type_only, binds_user}
+use Rattle.ev_resolve.specs.Bare.{Bare, Bares, bare_var, bare_lit, bare_node, bare_of, bare_none, bare_more, IsGiven, Fits, FitAll}
+use Rattle.ev_infer.proofs.Nodes.{inside_plain, one_type_only, binds_user}
 use Rattle.ev_print.specs.Styles.{base_style, shows_type}
 use Rattle.ev_print.specs.Canon.{first_type, symbol_shows_type, leaves_open, annotation}
 use Rattle.ev_readback.proofs.Rows.{pass, row_passed}

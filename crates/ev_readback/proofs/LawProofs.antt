@@ -8,7 +8,6 @@ use Rattle.ev_terms.specs.declared.types.Sym.{Sym}
 use Rattle.ev_terms.specs.declared.types.Sym.TheVariants.{Base, User}
 use Rattle.ev_terms.specs.Types.{type_list}
 use Rattle.ev_terms.specs.Term.{Term, Terms, var, lit, node, nil, cons}
-use Rattle.ev_terms.specs.declared.types.TheConstants.{FOR_ALL, FOR_SOME, SET_FORMER}
 use Rattle.ev_terms.specs.Symbols.{binds}
 use Rattle.ev_terms.specs.Measures.{depth, depths}
 use Rattle.ev_typing.specs.Env.{Env, Name, profile}
@@ -16,16 +15,17 @@ use Rattle.ev_typing.specs.Typing.{IsProper, Typed}
 use Rattle.ev_typing.specs.Proper.{HasProperSignatures}
 use Rattle.ev_typing.specs.WellFormed.{IsWellFormed}
 use Rattle.ev_typing.proofs.ProperSignatures.{signatures_proper}
-use Rattle.ev_raw.specs.Raw.{Raw, Raws, none, one}
-use Rattle.ev_annotate.specs.Reading.{Variable, context_of}
-use Rattle.ev_annotate.specs.Annotates.{binder_names, all_binder_names, is_formula_name, variables_context}
-use Rattle.ev_annotate.specs.Bare.{Fits}
-use Rattle.ev_annotate.specs.Resolve.{known_of, forget, resolve}
-use Rattle.ev_annotate.specs.Inference.{HaveProperTypes, IsAnnotation}
-use Rattle.ev_annotate.proofs.Nodes.{context_type_proper}
-use Rattle.ev_annotate.proofs.ToBare.{AreGood, to_bare}
-use Rattle.ev_annotate.proofs.FromBare.{from_bare}
-use Rattle.ev_annotate.proofs.Inference.{context_reverse, good_reverse}
+use Rattle.ev_syntax.specs.Raw.{Raw, Raws, none, one}
+use Rattle.ev_resolve.specs.Reading.{Variable, context_of}
+use Rattle.ev_resolve.specs.UsedNames.{binder_names, all_binder_names, is_formula_name}
+use Rattle.ev_infer.specs.Annotates.{variables_context}
+use Rattle.ev_resolve.specs.Bare.{Fits}
+use Rattle.ev_resolve.specs.Resolve.{known_of, forget, resolve}
+use Rattle.ev_infer.specs.Inference.{HaveProperTypes, IsAnnotation}
+use Rattle.ev_infer.proofs.Nodes.{context_type_proper}
+use Rattle.ev_infer.proofs.ToBare.{AreGood, to_bare}
+use Rattle.ev_infer.proofs.FromBare.{from_bare}
+use Rattle.ev_infer.proofs.Inferring.{context_reverse, good_reverse}
 use Rattle.ev_typing.proofs.Proper.{result_from_proper}
 use Rattle.ev_print.specs.declared.styles.Style.{Style}
 use Rattle.ev_print.specs.declared.styles.Style.TheVariants.{Word, Braces, Infix, Not, Minus, Inverse, Around, Quantifier, SetFormer, Whole, Image, Application}
@@ -115,7 +115,7 @@ annotated_named (Some a) e h = h
 
 binds_most : (s : Sym) → binds s ≤ 1
 unfolding binds
-binds_most (Base k) = at_most ((k == FOR_ALL || k == FOR_SOME) || k == SET_FORMER)
+binds_most (Base k) = at_most ((k == 7 || k == 8) || k == 29)
   where
     at_most : (b : Boolean) → (if b then 1 else 0) ≤ 1
     at_most true = omega arith

@@ -21,10 +21,10 @@ use Rattle.ev_typing.proofs.Names.{same_name, name_same, holds_of_one}
 use Rattle.ev_typing.proofs.Entries.{KeepsNames, symbols_named, datatypes_named, look_up_later}
 use Rattle.ev_syntax.specs.Names.{is_name, is_variable_name}
 use Rattle.ev_syntax.specs.Chars.{is_digits}
-use Rattle.ev_annotate.specs.Reading.{Known, Variable, Meaning, variable, symbol, meaning, formula_meaning, of_position, of_count, variable_of, option_is, binder_of}
-use Rattle.ev_annotate.specs.Annotates.{is_name_among, is_formula_name}
-use Rattle.ev_annotate.specs.Resolve.{known_of, forget, forget_type}
-use Rattle.ev_annotate.proofs.ToBare.{forget_proper}
+use Rattle.ev_resolve.specs.Reading.{Known, Variable, Meaning, variable, symbol, meaning, formula_meaning, of_position, of_count, variable_of, option_is, binder_of}
+use Rattle.ev_resolve.specs.UsedNames.{is_name_among, is_formula_name}
+use Rattle.ev_resolve.specs.Resolve.{known_of, forget, forget_type}
+use Rattle.ev_infer.proofs.ToBare.{forget_proper}
 use Rattle.ev_print.specs.Canon.{variable_text}
 use Rattle.ev_print.specs.ReadBack.{is_free_name, HasFreeNames}
 use Rattle.ev_readback.specs.OnlyAnnotation.{variables_from, canonical_variables, AreParameters}

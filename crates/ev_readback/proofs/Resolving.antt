@@ -20,12 +20,12 @@ use Rattle.ev_typing.specs.Env.{Env, Name, profile}
 use Rattle.ev_typing.specs.Typing.{IsProper, AreProper, Typed, AreTyped, IsTypedNode, var_type, inside}
 use Rattle.ev_typing.specs.WellFormed.{IsWellFormed}
 use Rattle.ev_typing.proofs.Proper.{and_split}
-use Rattle.ev_raw.specs.Raw.{Binder, Raw, Raws, word, literal, param, type_set, call, around, unary, binary, inverse, apply, image, of_type, quantified, set_of, members, none, one}
-use Rattle.ev_annotate.specs.Reading.{Variable, meaning, variable, symbol, both, Plain, infix_symbols, prefix_symbols, around_symbols, word_symbols, entry_of, swaps, quantifier, count_of}
-use Rattle.ev_annotate.specs.Bare.{Bare, Bares, bare_var, bare_lit, bare_node, bare_of, bare_none, bare_more}
-use Rattle.ev_annotate.specs.Resolve.{known_of, bare_and_not, plain_bare, two_bares, application_bare, call_bare, resolve, resolve_all, type_bare, bare_one, bare_two, word_bare, bind_all}
-use Rattle.ev_annotate.proofs.ToBare.{both_to}
-use Rattle.ev_annotate.proofs.Nodes.{inside_plain, binds_user}
+use Rattle.ev_syntax.specs.Raw.{Binder, Raw, Raws, word, literal, param, type_set, call, around, unary, binary, inverse, apply, image, of_type, quantified, set_of, members, none, one}
+use Rattle.ev_resolve.specs.Reading.{Variable, meaning, variable, symbol, both, Plain, infix_symbols, prefix_symbols, around_symbols, word_symbols, entry_of, swaps, quantifier, count_of}
+use Rattle.ev_resolve.specs.Bare.{Bare, Bares, bare_var, bare_lit, bare_node, bare_of, bare_none, bare_more}
+use Rattle.ev_resolve.specs.Resolve.{known_of, bare_and_not, plain_bare, two_bares, application_bare, call_bare, resolve, resolve_all, type_bare, bare_one, bare_two, word_bare, bind_all}
+use Rattle.ev_infer.proofs.ToBare.{both_to}
+use Rattle.ev_infer.proofs.Nodes.{inside_plain, binds_user}
 use Rattle.ev_print.specs.declared.styles.Style.{Style}
 use Rattle.ev_print.specs.declared.styles.Style.TheVariants.{Word, Braces, Infix, Not, Minus, Inverse, Around, Quantifier, SetFormer, Whole, Image, Application}
 use Rattle.ev_print.specs.Styles.{base_style, shows_type}

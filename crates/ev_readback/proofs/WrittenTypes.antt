@@ -7,9 +7,9 @@ use Rattle.ev_terms.specs.Types.{pow, prod, more, type_list}
 use Rattle.ev_typing.specs.declared.typing.DataDecl.{DataDecl}
 use Rattle.ev_typing.specs.Env.{Env, Name, find_data}
 use Rattle.ev_typing.specs.Typing.{IsProper, AreProper}
-use Rattle.ev_annotate.specs.Reading.{named, type_of_raw, types_of_raw, both}
-use Rattle.ev_annotate.specs.Resolve.{known_of}
-use Rattle.ev_annotate.proofs.ToBare.{both_to}
+use Rattle.ev_resolve.specs.Reading.{named, type_of_raw, types_of_raw, both}
+use Rattle.ev_resolve.specs.Resolve.{known_of}
+use Rattle.ev_infer.proofs.ToBare.{both_to}
 use Rattle.ev_print.specs.ReadBack.{HasFreeNames}
 use Rattle.ev_print.specs.Texts.{raw_type, raw_types}
 use Rattle.ev_readback.specs.OnlyAnnotation.{AreParameters}

@@ -7,9 +7,9 @@ use Rattle.ev_terms.specs.Measures.{depth}
 use Rattle.ev_typing.specs.Env.{Env, Name, names}
 use Rattle.ev_typing.specs.Typing.{IsProper, Typed}
 use Rattle.ev_typing.specs.WellFormed.{IsWellFormed}
-use Rattle.ev_annotate.specs.Reading.{Variable}
-use Rattle.ev_annotate.specs.Annotates.{is_name_among}
-use Rattle.ev_annotate.specs.Inference.{IsOnlyAnnotation}
+use Rattle.ev_resolve.specs.Reading.{Variable}
+use Rattle.ev_resolve.specs.UsedNames.{is_name_among}
+use Rattle.ev_infer.specs.Inference.{IsOnlyAnnotation}
 use Rattle.ev_print.specs.Canon.{variable_text}
 use Rattle.ev_print.specs.ReadBack.{is_free_name, HasFreeNames}
 use Rattle.ev_print.specs.Texts.{raw_term}

@@ -13,11 +13,11 @@ use Rattle.ev_syntax.specs.declared.pieces.Piece.TheVariants.{Found, TooLarge}
 use Rattle.ev_syntax.specs.declared.faults.LexFault.{LexFault}
 use Rattle.ev_syntax.specs.declared.faults.LexFault.TheVariants.{BadText, NumberTooLarge, NoMemory}
 use Rattle.ev_syntax.specs.Tokens.{Spanned, number, HasTokens, IsBadText, HasTooLarge, tokens_of, is_too_large}
-use Rattle.ev_syntax.specs.Places.{PassesAll, Stops}
+use Rattle.ev_syntax.specs.inner.Places.{PassesAll, Stops}
 use Rattle.ev_syntax.specs.Chars.{is_blank}
 use Rattle.ev_syntax.specs.Views.{seen_in, all_seen_in, IsSmall, token_with}
-use Rattle.ev_syntax.specs.Standing.{StandsAt}
-use Rattle.ev_syntax.specs.Reading.{ReadsTo, HasTokensFrom, AreSmall, IsAnswer}
+use Rattle.ev_syntax.specs.inner.Standing.{StandsAt}
+use Rattle.ev_syntax.specs.inner.Reading.{ReadsTo, HasTokensFrom, AreSmall, IsAnswer}
 use Rattle.ev_syntax.proofs.Continuing.{reads_more, large_text, bad_behind, text_tokens_same}
 
 -- one token more

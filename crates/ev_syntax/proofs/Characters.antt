@@ -6,7 +6,7 @@ use Rattle.std.specs.Char.{len_utf8}
 use Rattle.std.specs.List.{list_all}
 use Rattle.std.proofs.lemmas.Str.{IsUtf8-drop, drop_past_char, chars_past_char, IsCharBoundary-past_char, encode_ascii, IsCharBoundary-after_ascii, length-encode, chars-nil, IsCharBoundary-start, byte_from_char, chars_from_encodes}
 use Rattle.std.proofs.lemmas.List.{drop_more, drop_all, length-append, length-drop, get_or-drop, append_assoc}
-use Rattle.ev_syntax.specs.Places.{IsPlace, PassesOne, PassesAll, Stops}
+use Rattle.ev_syntax.specs.inner.Places.{IsPlace, PassesOne, PassesAll, Stops}
 
 pub char_here : (bs rest : List ℕ) (at c : ℕ) → IsUtf8 bs → IsPlace bs at → drop at bs ≡ encode_utf8 c ++ rest
     → chars (drop at bs) ≡ c ∷ chars (drop (at + len_utf8 c) bs)

@@ -7,9 +7,9 @@ use Rattle.std.proofs.lemmas.List.{append_assoc, append-nil, length-append, leng
 use Rattle.std.proofs.lemmas.Str.{encodes-append, chars_from_encodes, chars-nil, encodes-chars, scalars-chars, IsUtf8-drop}
 use Rattle.ev_syntax.specs.Chars.{is_blank, are_blanks}
 use Rattle.ev_syntax.specs.Tokens.{Spanned, BeginsWith, AreTokens, HasTokens, IsBadText, HasTooLarge, tokens_of, is_too_large, is_token, token_of, number}
-use Rattle.ev_syntax.specs.Places.{PassesAll, Stops, BeginsNone}
-use Rattle.ev_syntax.specs.Standing.{BeginsAt}
-use Rattle.ev_syntax.specs.Reading.{ReadsTo, HasTokensFrom}
+use Rattle.ev_syntax.specs.inner.Places.{PassesAll, Stops, BeginsNone}
+use Rattle.ev_syntax.specs.inner.Standing.{BeginsAt}
+use Rattle.ev_syntax.specs.inner.Reading.{ReadsTo, HasTokensFrom}
 use Rattle.std.proofs.lemmas.Bool.{le-leb}
 use Rattle.ev_syntax.proofs.TokenKinds.{token_blank, empty_token}
 use Rattle.ev_syntax.proofs.Fronts.{begins_after}

@@ -6,7 +6,7 @@ use Rattle.std.specs.Char.{is_ascii_digit}
 use Rattle.std.proofs.lemmas.List.{append_assoc}
 use Rattle.std.proofs.lemmas.Str.{encode_ascii}
 use Rattle.ev_syntax.specs.Tokens.{decimal_value}
-use Rattle.ev_syntax.specs.Places.{IsPlace, CountsTo}
+use Rattle.ev_syntax.specs.inner.Places.{IsPlace, CountsTo}
 use Rattle.ev_syntax.proofs.Characters.{encodes-push, all-push, ascii_here, ascii_next}
 
 fold-push : (f : ℕ → ℕ → ℕ) (a : ℕ) (run : List ℕ) (c : ℕ) → fold f a (run ++ c ∷ []) ≡ f (fold f a run) c

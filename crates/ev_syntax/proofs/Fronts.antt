@@ -12,8 +12,8 @@ use Rattle.unicode_ident.proofs.Computing.{unicode_ident}
 use Rattle.ev_syntax.specs.Chars.{starts_name, is_word, is_digits}
 use Rattle.ev_syntax.specs.Marks.{signs, spellings}
 use Rattle.ev_syntax.specs.Tokens.{row_of, is_token, token_of, mark_or, Token, name, number, mark, Spanned, BeginsWith, decimal_value}
-use Rattle.ev_syntax.specs.Places.{IsPlace, PassesAll, Stops, Starts, CountsTo, IsLongest, SpellsMark, BeginsNone}
-use Rattle.ev_syntax.specs.Standing.{BeginsAt}
+use Rattle.ev_syntax.specs.inner.Places.{IsPlace, PassesAll, Stops, Starts, CountsTo, IsLongest, SpellsMark, BeginsNone}
+use Rattle.ev_syntax.specs.inner.Standing.{BeginsAt}
 use Rattle.ev_syntax.proofs.RowLemmas.{row_passes, row_of-at, row_length, none_by}
 use Rattle.ev_syntax.proofs.Signs.{sign_row}
 use Rattle.ev_syntax.proofs.TokenKinds.{start_continues, digit_starts, sign_begins, IsKind, word, digits, sign, kind_of_token, empty_token}

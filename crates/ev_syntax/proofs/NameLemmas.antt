@@ -13,7 +13,7 @@ use Rattle.ev_syntax.specs.Chars.{starts_name, is_word, is_digits}
 use Rattle.ev_syntax.specs.Marks.{signs, reserved_words, spellings}
 use Rattle.ev_syntax.specs.Tokens.{row_of}
 use Rattle.ev_syntax.specs.Names.{is_name, is_variable_name}
-use Rattle.ev_syntax.specs.Places.{PassesAll, Starts, Stops}
+use Rattle.ev_syntax.specs.inner.Places.{PassesAll, Starts, Stops}
 use Rattle.ev_syntax.proofs.RowLemmas.{row_of-at, row_of-is}
 use Rattle.ev_syntax.proofs.TokenKinds.{sign_begins, start_continues}
 use Rattle.ev_syntax.proofs.Fronts.{row_ascii}

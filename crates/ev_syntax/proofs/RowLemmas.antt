@@ -7,7 +7,7 @@ use borrow.Author.Tests.{leb-true}
 use Rattle.std.specs.List.{list_any, list_all}
 use Rattle.std.proofs.lemmas.Slice.Eq.{bytes_eq-Decides}
 use Rattle.ev_syntax.specs.Tokens.{row_of}
-use Rattle.ev_syntax.specs.Spelled.{are_different, candidate}
+use Rattle.ev_syntax.specs.inner.Spelled.{are_different, candidate}
 use Rattle.ev_syntax.specs.Marks.{spellings}
 
 pub equal_bytes : (xs ys : List ℕ) → bytes_eq xs ys ≡ true → xs ≡ ys

@@ -8,7 +8,7 @@ use Rattle.std.proofs.lemmas.Option.{none-some}
 use Rattle.ev_syntax.specs.declared.slots.TheConstants.{LONGEST}
 use Rattle.ev_syntax.specs.Marks.{signs, reserved_words, spellings}
 use Rattle.ev_syntax.specs.Tokens.{row_of}
-use Rattle.ev_syntax.specs.Places.{IsLongest}
+use Rattle.ev_syntax.specs.inner.Places.{IsLongest}
 use Rattle.ev_syntax.proofs.RowLemmas.{row_passes, row_of-at, row_of-is}
 
 longest : list_all (λ r. nat_le (length r) (get_or LONGEST (get_or r 0 0) 0)) signs ≡ true

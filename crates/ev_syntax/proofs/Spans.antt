@@ -5,7 +5,7 @@ use Rattle.std.specs.List.{All}
 use Rattle.ev_syntax.specs.declared.kinds as kinds
 use Rattle.ev_syntax.specs.declared.faults.LexFault.{LexFault}
 use Rattle.ev_syntax.specs.Views.{all_seen_in, LiesIn}
-use Rattle.ev_syntax.specs.Reading.{IsAnswer}
+use Rattle.ev_syntax.specs.inner.Reading.{IsAnswer}
 use Rattle.std.specs.Str.{chars, all_scalars}
 use lib.Utf8.{scalar}
 use Rattle.std.proofs.lemmas.List.{length-append, length-drop, drop-drop, drop_at, take_at}

@@ -10,9 +10,9 @@ use Rattle.ev_syntax.specs.declared.pieces.Piece.TheVariants.{Found, TooLarge}
 use Rattle.ev_syntax.specs.Chars.{starts_name}
 use Rattle.ev_syntax.specs.Marks.{spellings}
 use Rattle.ev_syntax.specs.Tokens.{row_of, mark_or, name}
-use Rattle.ev_syntax.specs.Places.{IsPlace, PassesAll, Stops, Starts, CountsTo, SpellsMark}
+use Rattle.ev_syntax.specs.inner.Places.{IsPlace, PassesAll, Stops, Starts, CountsTo, SpellsMark}
 use Rattle.ev_syntax.specs.Views.{token_with, seen_in, IsSmall}
-use Rattle.ev_syntax.specs.Standing.{StandsAt}
+use Rattle.ev_syntax.specs.inner.Standing.{StandsAt}
 use Rattle.ev_syntax.proofs.Characters.{ascii_here}
 use Rattle.ev_syntax.proofs.Fronts.{word_begins, number_small, number_large, sign_front, sign_place}
 

@@ -2,9 +2,12 @@ pub mod Chars
 pub mod Marks
 pub mod Tokens
 pub mod Names
-pub mod Spelled
-pub mod Places
 pub mod Views
-pub mod Standing
-pub mod Reading
 pub mod Laws
+pub mod Raw
+pub mod Parts
+pub mod Grammar
+pub mod Parses
+pub mod GrammarLaws
+pub mod Answers
+pub mod inner

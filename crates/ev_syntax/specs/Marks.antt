@@ -1,6 +1,5 @@
 -- The marks: the signs and the reserved words, each a row of one table.
 use Rattle.std.specs.Prelude.{ℕ, List, [], ◌∷◌, ◌++◌, codes}
-use Rattle.ev_syntax.specs.declared.mark_names.TheConstants.{FOR_ALL_SIGN, FOR_SOME_SIGN, AND_SIGN, IMPLIES_SIGN, IFF_SIGN, EQUAL_SIGN, NOT_EQUAL_SIGN, IN_SIGN, NOT_IN_SIGN, SUBSET_SIGN, NOT_SUBSET_SIGN, LESS_SIGN, AT_MOST_SIGN, GREATER_SIGN, AT_LEAST_SIGN, MAPS_TO_SIGN, RELATION_SIGN, PARTIAL_FUNCTION_SIGN, TOTAL_FUNCTION_SIGN, PARTIAL_INJECTION_SIGN, TOTAL_INJECTION_SIGN, PARTIAL_SURJECTION_SIGN, TOTAL_SURJECTION_SIGN, BIJECTION_SIGN, CUP_SIGN, CAP_SIGN, WITHOUT_SIGN, PRODUCT_SIGN, OVERRIDE_SIGN, DOMAIN_RESTRICTION_SIGN, DOMAIN_SUBTRACTION_SIGN, RANGE_RESTRICTION_SIGN, RANGE_SUBTRACTION_SIGN, COMPOSITION_SIGN, UP_TO_SIGN, PLUS_SIGN, MINUS_SIGN, TIMES_SIGN, OVER_SIGN, POWER_SIGN, INVERSE_SIGN, OPEN_PAREN, CLOSE_PAREN, OPEN_BRACKET, CLOSE_BRACKET, OPEN_BRACE, CLOSE_BRACE, COMMA, DOT, BAR, LAMBDA_SIGN, PARAM_SIGN, AT_SIGN, TRUE_WORD, FALSE_WORD, NOT_WORD, OR_WORD, TRUE_VALUE_WORD, FALSE_VALUE_WORD, INT_WORD, NAT_WORD, NAT1_WORD, BOOL_SET_WORD, POW_WORD, TYPE_WORD, PRED_WORD, BOOL_WORD, OFTYPE_WORD, MOD_WORD, FINITE_WORD, CARD_WORD, MIN_WORD, MAX_WORD, UNION_WORD, INTER_WORD, DOM_WORD, RAN_WORD, ID_WORD, PRJ1_WORD, PRJ2_WORD, UNION_OVER_WORD, INTER_OVER_WORD, AT_WORD, OF_WORD, IMPORT_WORD, PARAM_WORD, DATATYPE_WORD, OPERATOR_WORD, CONSTANT_WORD, AXIOM_WORD, THEOREM_WORD, REWRITE_WORD, INFERENCE_WORD, WHERE_WORD, IS_WORD, BY_WORD, CASE_WORD, FOR_WORD, WHEN_WORD, THEN_WORD, COMPLETE_WORD, GIVEN_WORD, INFER_WORD}
 
 -- the signs
 abbrev pub signs : List (List ℕ)
@@ -31,312 +30,419 @@ reserved_words =
 abbrev pub spellings : List (List ℕ)
 spellings = signs ++ reserved_words
 
--- the rows by name
+-- the rows by name; `token_laws` says that each is the row of its spelling
 abbrev pub for_all_sign : ℕ
-for_all_sign = FOR_ALL_SIGN
+for_all_sign = 0
 
 abbrev pub for_some_sign : ℕ
-for_some_sign = FOR_SOME_SIGN
+for_some_sign = 1
 
 abbrev pub and_sign : ℕ
-and_sign = AND_SIGN
+and_sign = 2
 
 abbrev pub implies_sign : ℕ
-implies_sign = IMPLIES_SIGN
+implies_sign = 3
 
 abbrev pub iff_sign : ℕ
-iff_sign = IFF_SIGN
+iff_sign = 4
 
 abbrev pub equal_sign : ℕ
-equal_sign = EQUAL_SIGN
+equal_sign = 5
 
 abbrev pub not_equal_sign : ℕ
-not_equal_sign = NOT_EQUAL_SIGN
+not_equal_sign = 6
 
 abbrev pub in_sign : ℕ
-in_sign = IN_SIGN
+in_sign = 7
 
 abbrev pub not_in_sign : ℕ
-not_in_sign = NOT_IN_SIGN
+not_in_sign = 8
 
 abbrev pub subset_sign : ℕ
-subset_sign = SUBSET_SIGN
+subset_sign = 9
 
 abbrev pub not_subset_sign : ℕ
-not_subset_sign = NOT_SUBSET_SIGN
+not_subset_sign = 10
 
 abbrev pub less_sign : ℕ
-less_sign = LESS_SIGN
+less_sign = 11
 
 abbrev pub at_most_sign : ℕ
-at_most_sign = AT_MOST_SIGN
+at_most_sign = 12
 
 abbrev pub greater_sign : ℕ
-greater_sign = GREATER_SIGN
+greater_sign = 13
 
 abbrev pub at_least_sign : ℕ
-at_least_sign = AT_LEAST_SIGN
+at_least_sign = 14
 
 abbrev pub maps_to_sign : ℕ
-maps_to_sign = MAPS_TO_SIGN
+maps_to_sign = 15
 
 abbrev pub relation_sign : ℕ
-relation_sign = RELATION_SIGN
+relation_sign = 16
 
 abbrev pub partial_function_sign : ℕ
-partial_function_sign = PARTIAL_FUNCTION_SIGN
+partial_function_sign = 17
 
 abbrev pub total_function_sign : ℕ
-total_function_sign = TOTAL_FUNCTION_SIGN
+total_function_sign = 18
 
 abbrev pub partial_injection_sign : ℕ
-partial_injection_sign = PARTIAL_INJECTION_SIGN
+partial_injection_sign = 19
 
 abbrev pub total_injection_sign : ℕ
-total_injection_sign = TOTAL_INJECTION_SIGN
+total_injection_sign = 20
 
 abbrev pub partial_surjection_sign : ℕ
-partial_surjection_sign = PARTIAL_SURJECTION_SIGN
+partial_surjection_sign = 21
 
 abbrev pub total_surjection_sign : ℕ
-total_surjection_sign = TOTAL_SURJECTION_SIGN
+total_surjection_sign = 22
 
 abbrev pub bijection_sign : ℕ
-bijection_sign = BIJECTION_SIGN
+bijection_sign = 23
 
 abbrev pub cup_sign : ℕ
-cup_sign = CUP_SIGN
+cup_sign = 24
 
 abbrev pub cap_sign : ℕ
-cap_sign = CAP_SIGN
+cap_sign = 25
 
 abbrev pub without_sign : ℕ
-without_sign = WITHOUT_SIGN
+without_sign = 26
 
 abbrev pub product_sign : ℕ
-product_sign = PRODUCT_SIGN
+product_sign = 27
 
 abbrev pub override_sign : ℕ
-override_sign = OVERRIDE_SIGN
+override_sign = 28
 
 abbrev pub domain_restriction_sign : ℕ
-domain_restriction_sign = DOMAIN_RESTRICTION_SIGN
+domain_restriction_sign = 29
 
 abbrev pub domain_subtraction_sign : ℕ
-domain_subtraction_sign = DOMAIN_SUBTRACTION_SIGN
+domain_subtraction_sign = 30
 
 abbrev pub range_restriction_sign : ℕ
-range_restriction_sign = RANGE_RESTRICTION_SIGN
+range_restriction_sign = 31
 
 abbrev pub range_subtraction_sign : ℕ
-range_subtraction_sign = RANGE_SUBTRACTION_SIGN
+range_subtraction_sign = 32
 
 abbrev pub composition_sign : ℕ
-composition_sign = COMPOSITION_SIGN
+composition_sign = 33
 
 abbrev pub up_to_sign : ℕ
-up_to_sign = UP_TO_SIGN
+up_to_sign = 34
 
 abbrev pub plus_sign : ℕ
-plus_sign = PLUS_SIGN
+plus_sign = 35
 
 abbrev pub minus_sign : ℕ
-minus_sign = MINUS_SIGN
+minus_sign = 36
 
 abbrev pub times_sign : ℕ
-times_sign = TIMES_SIGN
+times_sign = 37
 
 abbrev pub over_sign : ℕ
-over_sign = OVER_SIGN
+over_sign = 38
 
 abbrev pub power_sign : ℕ
-power_sign = POWER_SIGN
+power_sign = 39
 
 abbrev pub inverse_sign : ℕ
-inverse_sign = INVERSE_SIGN
+inverse_sign = 40
 
 abbrev pub open_paren : ℕ
-open_paren = OPEN_PAREN
+open_paren = 41
 
 abbrev pub close_paren : ℕ
-close_paren = CLOSE_PAREN
+close_paren = 42
 
 abbrev pub open_bracket : ℕ
-open_bracket = OPEN_BRACKET
+open_bracket = 43
 
 abbrev pub close_bracket : ℕ
-close_bracket = CLOSE_BRACKET
+close_bracket = 44
 
 abbrev pub open_brace : ℕ
-open_brace = OPEN_BRACE
+open_brace = 45
 
 abbrev pub close_brace : ℕ
-close_brace = CLOSE_BRACE
+close_brace = 46
 
 abbrev pub comma : ℕ
-comma = COMMA
+comma = 47
 
 abbrev pub dot : ℕ
-dot = DOT
+dot = 48
 
 abbrev pub bar : ℕ
-bar = BAR
+bar = 49
 
 abbrev pub lambda_sign : ℕ
-lambda_sign = LAMBDA_SIGN
+lambda_sign = 50
 
 abbrev pub param_sign : ℕ
-param_sign = PARAM_SIGN
+param_sign = 51
 
 abbrev pub at_sign : ℕ
-at_sign = AT_SIGN
+at_sign = 52
 
 abbrev pub true_word : ℕ
-true_word = TRUE_WORD
+true_word = 53
 
 abbrev pub false_word : ℕ
-false_word = FALSE_WORD
+false_word = 54
 
 abbrev pub not_word : ℕ
-not_word = NOT_WORD
+not_word = 55
 
 abbrev pub or_word : ℕ
-or_word = OR_WORD
+or_word = 56
 
 abbrev pub true_value_word : ℕ
-true_value_word = TRUE_VALUE_WORD
+true_value_word = 57
 
 abbrev pub false_value_word : ℕ
-false_value_word = FALSE_VALUE_WORD
+false_value_word = 58
 
 abbrev pub int_word : ℕ
-int_word = INT_WORD
+int_word = 59
 
 abbrev pub nat_word : ℕ
-nat_word = NAT_WORD
+nat_word = 60
 
 abbrev pub nat1_word : ℕ
-nat1_word = NAT1_WORD
+nat1_word = 61
 
 abbrev pub bool_set_word : ℕ
-bool_set_word = BOOL_SET_WORD
+bool_set_word = 62
 
 abbrev pub pow_word : ℕ
-pow_word = POW_WORD
+pow_word = 63
 
 abbrev pub type_word : ℕ
-type_word = TYPE_WORD
+type_word = 64
 
 abbrev pub pred_word : ℕ
-pred_word = PRED_WORD
+pred_word = 65
 
 abbrev pub bool_word : ℕ
-bool_word = BOOL_WORD
+bool_word = 66
 
 abbrev pub oftype_word : ℕ
-oftype_word = OFTYPE_WORD
+oftype_word = 67
 
 abbrev pub mod_word : ℕ
-mod_word = MOD_WORD
+mod_word = 68
 
 abbrev pub finite_word : ℕ
-finite_word = FINITE_WORD
+finite_word = 69
 
 abbrev pub card_word : ℕ
-card_word = CARD_WORD
+card_word = 70
 
 abbrev pub min_word : ℕ
-min_word = MIN_WORD
+min_word = 71
 
 abbrev pub max_word : ℕ
-max_word = MAX_WORD
+max_word = 72
 
 abbrev pub union_word : ℕ
-union_word = UNION_WORD
+union_word = 73
 
 abbrev pub inter_word : ℕ
-inter_word = INTER_WORD
+inter_word = 74
 
 abbrev pub dom_word : ℕ
-dom_word = DOM_WORD
+dom_word = 75
 
 abbrev pub ran_word : ℕ
-ran_word = RAN_WORD
+ran_word = 76
 
 abbrev pub id_word : ℕ
-id_word = ID_WORD
+id_word = 77
 
 abbrev pub prj1_word : ℕ
-prj1_word = PRJ1_WORD
+prj1_word = 78
 
 abbrev pub prj2_word : ℕ
-prj2_word = PRJ2_WORD
+prj2_word = 79
 
 abbrev pub union_over_word : ℕ
-union_over_word = UNION_OVER_WORD
+union_over_word = 80
 
 abbrev pub inter_over_word : ℕ
-inter_over_word = INTER_OVER_WORD
+inter_over_word = 81
 
 abbrev pub at_word : ℕ
-at_word = AT_WORD
+at_word = 82
 
 abbrev pub of_word : ℕ
-of_word = OF_WORD
+of_word = 83
 
 abbrev pub import_word : ℕ
-import_word = IMPORT_WORD
+import_word = 84
 
 abbrev pub param_word : ℕ
-param_word = PARAM_WORD
+param_word = 85
 
 abbrev pub datatype_word : ℕ
-datatype_word = DATATYPE_WORD
+datatype_word = 86
 
 abbrev pub operator_word : ℕ
-operator_word = OPERATOR_WORD
+operator_word = 87
 
 abbrev pub constant_word : ℕ
-constant_word = CONSTANT_WORD
+constant_word = 88
 
 abbrev pub axiom_word : ℕ
-axiom_word = AXIOM_WORD
+axiom_word = 89
 
 abbrev pub theorem_word : ℕ
-theorem_word = THEOREM_WORD
+theorem_word = 90
 
 abbrev pub rewrite_word : ℕ
-rewrite_word = REWRITE_WORD
+rewrite_word = 91
 
 abbrev pub inference_word : ℕ
-inference_word = INFERENCE_WORD
+inference_word = 92
 
 abbrev pub where_word : ℕ
-where_word = WHERE_WORD
+where_word = 93
 
 abbrev pub is_word : ℕ
-is_word = IS_WORD
+is_word = 94
 
 abbrev pub by_word : ℕ
-by_word = BY_WORD
+by_word = 95
 
 abbrev pub case_word : ℕ
-case_word = CASE_WORD
+case_word = 96
 
 abbrev pub for_word : ℕ
-for_word = FOR_WORD
+for_word = 97
 
 abbrev pub when_word : ℕ
-when_word = WHEN_WORD
+when_word = 98
 
 abbrev pub then_word : ℕ
-then_word = THEN_WORD
+then_word = 99
 
 abbrev pub complete_word : ℕ
-complete_word = COMPLETE_WORD
+complete_word = 100
 
 abbrev pub given_word : ℕ
-given_word = GIVEN_WORD
+given_word = 101
 
 abbrev pub infer_word : ℕ
-infer_word = INFER_WORD
+infer_word = 102
+
+-- each row by name with its spelling
+abbrev pub named_marks : List (ℕ × List ℕ)
+named_marks =
+    (for_all_sign, codes "!") ∷
+    (for_some_sign, codes "#") ∷
+    (and_sign, codes "&") ∷
+    (implies_sign, codes "=>") ∷
+    (iff_sign, codes "<=>") ∷
+    (equal_sign, codes "=") ∷
+    (not_equal_sign, codes "/=") ∷
+    (in_sign, codes ":") ∷
+    (not_in_sign, codes "/:") ∷
+    (subset_sign, codes "<:") ∷
+    (not_subset_sign, codes "/<:") ∷
+    (less_sign, codes "<") ∷
+    (at_most_sign, codes "<=") ∷
+    (greater_sign, codes ">") ∷
+    (at_least_sign, codes ">=") ∷
+    (maps_to_sign, codes "|->") ∷
+    (relation_sign, codes "<->") ∷
+    (partial_function_sign, codes "+->") ∷
+    (total_function_sign, codes "-->") ∷
+    (partial_injection_sign, codes ">+>") ∷
+    (total_injection_sign, codes ">->") ∷
+    (partial_surjection_sign, codes "+->>") ∷
+    (total_surjection_sign, codes "-->>") ∷
+    (bijection_sign, codes ">->>") ∷
+    (cup_sign, codes "\\/") ∷
+    (cap_sign, codes "/\\") ∷
+    (without_sign, codes "\\") ∷
+    (product_sign, codes "**") ∷
+    (override_sign, codes "<+") ∷
+    (domain_restriction_sign, codes "<|") ∷
+    (domain_subtraction_sign, codes "<<|") ∷
+    (range_restriction_sign, codes "|>") ∷
+    (range_subtraction_sign, codes "|>>") ∷
+    (composition_sign, codes ";") ∷
+    (up_to_sign, codes "..") ∷
+    (plus_sign, codes "+") ∷
+    (minus_sign, codes "-") ∷
+    (times_sign, codes "*") ∷
+    (over_sign, codes "/") ∷
+    (power_sign, codes "^") ∷
+    (inverse_sign, codes "~") ∷
+    (open_paren, codes "(") ∷
+    (close_paren, codes ")") ∷
+    (open_bracket, codes "[") ∷
+    (close_bracket, codes "]") ∷
+    (open_brace, codes "{") ∷
+    (close_brace, codes "}") ∷
+    (comma, codes ",") ∷
+    (dot, codes ".") ∷
+    (bar, codes "|") ∷
+    (lambda_sign, codes "%") ∷
+    (param_sign, codes "?") ∷
+    (at_sign, codes "@") ∷
+    (true_word, codes "true") ∷
+    (false_word, codes "false") ∷
+    (not_word, codes "not") ∷
+    (or_word, codes "or") ∷
+    (true_value_word, codes "TRUE") ∷
+    (false_value_word, codes "FALSE") ∷
+    (int_word, codes "INT") ∷
+    (nat_word, codes "NAT") ∷
+    (nat1_word, codes "NAT1") ∷
+    (bool_set_word, codes "BOOL") ∷
+    (pow_word, codes "POW") ∷
+    (type_word, codes "TYPE") ∷
+    (pred_word, codes "PRED") ∷
+    (bool_word, codes "bool") ∷
+    (oftype_word, codes "oftype") ∷
+    (mod_word, codes "mod") ∷
+    (finite_word, codes "finite") ∷
+    (card_word, codes "card") ∷
+    (min_word, codes "min") ∷
+    (max_word, codes "max") ∷
+    (union_word, codes "union") ∷
+    (inter_word, codes "inter") ∷
+    (dom_word, codes "dom") ∷
+    (ran_word, codes "ran") ∷
+    (id_word, codes "id") ∷
+    (prj1_word, codes "prj1") ∷
+    (prj2_word, codes "prj2") ∷
+    (union_over_word, codes "UNION") ∷
+    (inter_over_word, codes "INTER") ∷
+    (at_word, codes "at") ∷
+    (of_word, codes "of") ∷
+    (import_word, codes "IMPORT") ∷
+    (param_word, codes "PARAM") ∷
+    (datatype_word, codes "DATATYPE") ∷
+    (operator_word, codes "OPERATOR") ∷
+    (constant_word, codes "CONSTANT") ∷
+    (axiom_word, codes "AXIOM") ∷
+    (theorem_word, codes "THEOREM") ∷
+    (rewrite_word, codes "REWRITE") ∷
+    (inference_word, codes "INFERENCE") ∷
+    (where_word, codes "WHERE") ∷
+    (is_word, codes "IS") ∷
+    (by_word, codes "BY") ∷
+    (case_word, codes "CASE") ∷
+    (for_word, codes "FOR") ∷
+    (when_word, codes "WHEN") ∷
+    (then_word, codes "THEN") ∷
+    (complete_word, codes "COMPLETE") ∷
+    (given_word, codes "GIVEN") ∷
+    (infer_word, codes "INFER") ∷ []

@@ -2,10 +2,10 @@
 ghost use Rattle.std.specs.Prelude.{◌≡◌, ◌≢◌, ◌↔◌, ◌⊎◌, ◌<◌, ◌^◌, List, IsTrue, IfOk, IsOkUnless, length};
 ghost use Rattle.std.specs.List.{All};
 ghost use Rattle.ev_syntax.specs.Tokens.{Spanned, HasTokens, IsBadText, HasTooLarge};
-ghost use Rattle.ev_syntax.specs.Places.{IsPlace};
+ghost use Rattle.ev_syntax.specs.inner.Places.{IsPlace};
 ghost use Rattle.ev_syntax.specs.Laws.{AreSpans};
 ghost use Rattle.ev_syntax.specs.Views.{all_seen_in, LiesIn};
-ghost use Rattle.ev_syntax.specs.Reading.{HasTokensFrom, AreSmall, IsAnswer};
+ghost use Rattle.ev_syntax.specs.inner.Reading.{HasTokensFrom, AreSmall, IsAnswer};
 
 use crate::faults::LexFault;
 use crate::kinds::Tokens;

@@ -1,7 +1,7 @@
 //! The marks: the signs and the reserved words, each a row of one table.
 ghost use Rattle.std.specs.Prelude.{◌≡◌, ◌<◌, ◌≤◌, IsTrue, length, slice_get};
 ghost use Rattle.std.specs.Option.{option_copied};
-ghost use Rattle.ev_syntax.specs.Spelled.{texts, have_their_bytes, are_different, candidate};
+ghost use Rattle.ev_syntax.specs.inner.Spelled.{texts, have_their_bytes, are_different, candidate};
 ghost use Rattle.ev_syntax.specs.Marks.{spellings};
 ghost use Rattle.ev_syntax.specs.Tokens.{row_of};
 
@@ -47,7 +47,7 @@ pub fn all_spellings() -> Spellings<COUNT>
 }
 
 /// The row that a spelling of these bytes can have.
-#[tactic(auto, unfolding(crate::specs::Spelled::candidate))]
+#[tactic(auto, unfolding(crate::specs::inner::Spelled::candidate))]
 fn candidate(word: &[u8]) -> u16
     requires { (0 < length word.now) × (length word.now ≤ 9) }
     ensures { result ≡ candidate word.now }

@@ -6,7 +6,7 @@ ghost use Rattle.unicode_ident.specs.Ident.{is_xid_continue};
 ghost use Rattle.ev_syntax.specs.Chars.{is_blank, starts_name};
 ghost use Rattle.ev_syntax.specs.Marks.{signs};
 ghost use Rattle.ev_syntax.specs.Tokens.{row_of};
-ghost use Rattle.ev_syntax.specs.Places.{IsPlace, PassesOne, PassesAll, Stops, CountsTo, IsLongest, SpellsMark};
+ghost use Rattle.ev_syntax.specs.inner.Places.{IsPlace, PassesOne, PassesAll, Stops, CountsTo, IsLongest, SpellsMark};
 
 use crate::marks::mark_of;
 use crate::slots::LONGEST;

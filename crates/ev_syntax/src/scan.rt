@@ -4,8 +4,8 @@ ghost use Rattle.std.specs.Str.{chars};
 ghost use Rattle.std.specs.Char.{is_ascii_digit, is_ascii_alphabetic};
 ghost use Rattle.unicode_ident.specs.Ident.{is_xid_start};
 ghost use Rattle.ev_syntax.specs.Chars.{starts_name};
-ghost use Rattle.ev_syntax.specs.Places.{IsPlace, Starts, Stops};
-ghost use Rattle.ev_syntax.specs.Standing.{StandsAt};
+ghost use Rattle.ev_syntax.specs.inner.Places.{IsPlace, Starts, Stops};
+ghost use Rattle.ev_syntax.specs.inner.Standing.{StandsAt};
 
 use crate::kinds::{Token, TokenKind};
 use crate::marks::mark_of;

@@ -33,6 +33,3 @@ pub type Nums = ListOf<u128>;
 
 /// Where a node stands in a term: child numbers from 1, the first that of the root's child.
 pub type Place = ListOf<u32>;
-
-#[cfg(test)]
-mod tests;

@@ -1,2 +1,9 @@
+pub mod Takings
+pub mod PieceLaws
+pub mod Listing
+pub mod Ending
+pub mod HeadParts
+pub mod Words
+pub mod Elementary
 pub mod CutLaws
 pub mod TheoryLaws

@@ -4,8 +4,8 @@ use Rattle.std.specs.List.{All}
 use Rattle.std.proofs.lemmas.List.{take_more, take_all, map-append}
 use denote.Ref.{Bor}
 use Rattle.ev_syntax.specs.Chars.{are_blanks}
-use Rattle.ev_elements.specs.declared.elements.RawElement.{RawElement}
-use Rattle.ev_elements.specs.Answers.{IsElement, IsNoElement}
+use Rattle.ev_theory_text.specs.declared.elements.RawElement.{RawElement}
+use Rattle.ev_theory_text.specs.Answers.{IsElement, IsNoElement}
 use Rattle.ev_theory_text.specs.Cut.{cut, texts}
 use Rattle.ev_theory_text.specs.Theories.{AreElements, BeginsWithNoElement, AreOf, IsTheory, FrontElements, FurtherElements}
 

@@ -2,10 +2,10 @@
 use Rattle.std.specs.Prelude.{◌≡◌, ℕ, List, [], ◌∷◌, ◌++◌, bytes_eq, fold, if◌then◌else◌, MatchBool}
 use Rattle.std.specs.List.{list_any}
 use Rattle.ev_syntax.specs.Chars.{are_blanks}
-use Rattle.ev_elements.specs.declared.forms.ElementForm.TheVariants.{Import}
-use Rattle.ev_elements.specs.declared.elements.RawElement.{RawElement}
-use Rattle.ev_elements.specs.declared.elements.RawElement.TheVariants.{Read}
-use Rattle.ev_elements.specs.Answers.{IsElement, IsNoElement}
+use Rattle.ev_theory_text.specs.declared.forms.ElementForm.TheVariants.{Import}
+use Rattle.ev_theory_text.specs.declared.elements.RawElement.{RawElement}
+use Rattle.ev_theory_text.specs.declared.elements.RawElement.TheVariants.{Read}
+use Rattle.ev_theory_text.specs.Answers.{IsElement, IsNoElement}
 use Rattle.ev_theory_text.specs.Cut.{Cutting, cut, texts}
 use denote.Ref.{Bor}
 

@@ -2,7 +2,8 @@
 ghost use Rattle.std.specs.Prelude.{◌≡◌, IfOk, OnOk};
 ghost use Rattle.ev_theory_text.specs.Theories.{with_name, with_import, import_names};
 
-use ev_elements::{ElementForm, RawElement, RawElements};
+use crate::elements::{RawElement, RawElements};
+use crate::forms::ElementForm;
 use ev_terms::{Name, Names, NoMemory, TryCopy};
 use indexmap::IndexSet;
 use std::alloc::Global;

@@ -5,7 +5,7 @@ ghost use Rattle.ev_syntax.specs.Chars.{is_blank, are_blanks};
 ghost use Rattle.ev_theory_text.specs.Theories.{IsTheory, FrontElements, FurtherElements};
 
 use crate::cutting::cut;
-use ev_elements::{RawElements, read_element, read_front};
+use crate::elements::{RawElements, read_element, read_front};
 use ev_terms::NoMemory;
 use std::alloc::Global;
 

@@ -5,7 +5,6 @@ use Rattle.std.proofs.Math.Path.{fun_ext}
 use Rattle.std.proofs.lemmas.Bool.{eqb-true}
 use Rattle.std.proofs.lemmas.Bool.Decides.{nat_tests}
 use Rattle.std.proofs.lemmas.List.{reverse-append, length-take-le}
-use Rattle.ev_terms.specs.declared.types.TheConstants.{FOR_ALL, FOR_SOME, SET_FORMER}
 use Rattle.ev_terms.specs.declared.types.Ty.{Ty}
 use Rattle.ev_terms.specs.declared.types.Tys.{Tys}
 use Rattle.ev_terms.specs.declared.types.Sym.{Sym}
@@ -37,22 +36,22 @@ some_map None f h = h
 some_map (Some x) f h = f x refl h
 
 -- A symbol binds no more variables than it has type parameters.
-binds_base : (k : ℕ) (a b c : Boolean) → a ≡ (k == FOR_ALL) → b ≡ (k == FOR_SOME) → c ≡ (k == SET_FORMER) → (p : Profile) → base_profile k ≡ Some p →
+binds_base : (k : ℕ) (a b c : Boolean) → a ≡ (k == 7) → b ≡ (k == 8) → c ≡ (k == 29) → (p : Profile) → base_profile k ≡ Some p →
     (if (a || b) || c then 1 else 0) ≤ p.params
 binds_base k true b c e f g p h =
-    let at : base_profile FOR_ALL ≡ Some p = ap base_profile (sym (eqb-true k FOR_ALL (sym e))) ∙ h in
+    let at : base_profile 7 ≡ Some p = ap base_profile (sym (eqb-true k 7 (sym e))) ∙ h in
     let one : 1 ≡ p.params = params_at _ p at in omega arith
   where
     params_at : (q p : Profile) → ◌≡◌ {A = Option Profile} (Some q) (Some p) → q.params ≡ p.params
     params_at q p e = let i : q ≡ p = cc in ap (λ (r : Profile). r.params) i
 binds_base k false true c e f g p h =
-    let at : base_profile FOR_SOME ≡ Some p = ap base_profile (sym (eqb-true k FOR_SOME (sym f))) ∙ h in
+    let at : base_profile 8 ≡ Some p = ap base_profile (sym (eqb-true k 8 (sym f))) ∙ h in
     let one : 1 ≡ p.params = params_at _ p at in omega arith
   where
     params_at : (q p : Profile) → ◌≡◌ {A = Option Profile} (Some q) (Some p) → q.params ≡ p.params
     params_at q p e = let i : q ≡ p = cc in ap (λ (r : Profile). r.params) i
 binds_base k false false true e f g p h =
-    let at : base_profile SET_FORMER ≡ Some p = ap base_profile (sym (eqb-true k SET_FORMER (sym g))) ∙ h in
+    let at : base_profile 29 ≡ Some p = ap base_profile (sym (eqb-true k 29 (sym g))) ∙ h in
     let one : 1 ≡ p.params = params_at _ p at in omega arith
   where
     params_at : (q p : Profile) → ◌≡◌ {A = Option Profile} (Some q) (Some p) → q.params ≡ p.params
@@ -61,7 +60,7 @@ binds_base k false false false e f g p h = omega arith
 
 pub binds_fit : (env : Env) (s : Sym) (p : Profile) → profile env s ≡ Some p → binds s ≤ p.params
 unfolding binds
-binds_fit env (Base k) p h = binds_base k (k == FOR_ALL) (k == FOR_SOME) (k == SET_FORMER) refl refl refl p h
+binds_fit env (Base k) p h = binds_base k (k == 7) (k == 8) (k == 29) refl refl refl p h
 binds_fit env (User n) p h = omega arith
 
 pub inside_length : (env : Env) (s : Sym) (As : Tys) (p : Profile) → profile env s ≡ Some p → length (type_list As) ≡ p.params → length (take (binds s) (type_list As)) ≡ binds s

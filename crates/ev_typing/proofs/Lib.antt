@@ -9,4 +9,3 @@ pub mod Keeps
 pub mod Wholes
 pub mod TypeInstances
 pub mod ProperSignatures
-pub mod SampleProofs

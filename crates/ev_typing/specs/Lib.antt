@@ -12,4 +12,3 @@ pub mod Numbered
 pub mod Instances
 pub mod Parts
 pub mod TypingLaws
-pub mod Samples

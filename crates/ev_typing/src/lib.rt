@@ -7,8 +7,6 @@ pub mod checking;
 pub mod environment;
 mod instances;
 pub mod table;
-#[cfg(test)]
-mod tests;
 pub mod typing;
 pub mod typing_laws;
 

@@ -5,11 +5,11 @@ use Rattle.std.proofs.lemmas.Bool.{eqb-true, eq-eqb, eqb-false, ne_eqb}
 use Rattle.ev_unify.specs.declared.patterns.Pat.{Pat, Int, Bool, Param, Data, Unknown}
 use Rattle.ev_unify.specs.declared.patterns.Bind.{Bind}
 use Rattle.ev_unify.specs.Patterns.{pow_pat, prod_pat}
-use Rattle.ev_unify.specs.Parts.{is_unknown, is_at}
-use Rattle.ev_unify.specs.Numbered.{part, HasHomes}
-use Rattle.ev_unify.specs.Links.{AreClasses}
+use Rattle.ev_unify.specs.inner.Parts.{is_unknown, is_at}
+use Rattle.ev_unify.specs.inner.Numbered.{part, HasHomes}
+use Rattle.ev_unify.specs.inner.Links.{AreClasses}
 use Rattle.ev_unify.specs.Solutions.{bound_to, BindsOnce}
-use Rattle.ev_unify.specs.Binding.{ComesFrom, HasBinds}
+use Rattle.ev_unify.specs.inner.Binding.{ComesFrom, HasBinds}
 use Rattle.ev_unify.proofs.Parts.{known_by}
 use Rattle.ev_unify.proofs.Spread.{split_last, unknown_is}
 

@@ -5,9 +5,9 @@ use Rattle.std.proofs.lemmas.List.{get_or-set_same, get_or-set_other}
 use Rattle.std.proofs.lemmas.Bool.{cases_eq}
 use Rattle.ev_terms.specs.declared.types.Ty.{Ty}
 use Rattle.ev_unify.specs.declared.patterns.Pat.{Pat}
-use Rattle.ev_unify.specs.Parts.{is_unknown}
-use Rattle.ev_unify.specs.Numbered.{part}
-use Rattle.ev_unify.specs.Links.{height, Linked, IsForest, SameChildren, Agrees, Shortens, IsRootOf}
+use Rattle.ev_unify.specs.inner.Parts.{is_unknown}
+use Rattle.ev_unify.specs.inner.Numbered.{part}
+use Rattle.ev_unify.specs.inner.Links.{height, Linked, IsForest, SameChildren, Agrees, Shortens, IsRootOf}
 use Rattle.ev_unify.proofs.Heights.{known_alike, total-set}
 
 pub children_refl : (f : ℕ → Ty) (P : List Pat) (F : List ℕ) (i : ℕ) → SameChildren f P F i i

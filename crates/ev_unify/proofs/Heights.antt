@@ -3,9 +3,9 @@ use Rattle.std.specs.Prelude.{◌≡◌, ℕ, zero, suc, ◌+◌, ◌<◌, ◌�
 use Rattle.std.proofs.Common.{ap, sym, ◌∙◌, arith, inl, inr, set}
 use Rattle.ev_unify.specs.declared.patterns.Pat.{Pat, Int, Bool, Param, Data, Unknown}
 use Rattle.ev_unify.specs.Patterns.{pow_pat, prod_pat}
-use Rattle.ev_unify.specs.Parts.{Head, int_head, bool_head, prop_head, param_head, pow_head, prod_head, data_head, unknown_head, head, is_unknown}
-use Rattle.ev_unify.specs.Numbered.{part}
-use Rattle.ev_unify.specs.Links.{height, total_height}
+use Rattle.ev_unify.specs.inner.Parts.{Head, int_head, bool_head, prop_head, param_head, pow_head, prod_head, data_head, unknown_head, head, is_unknown}
+use Rattle.ev_unify.specs.inner.Numbered.{part}
+use Rattle.ev_unify.specs.inner.Links.{height, total_height}
 
 pub height_unknown : (P : List Pat) (i : ℕ) → is_unknown (part P i) ≡ true → height P i ≡ length P + i
 height_unknown P i e = ap (λ b. if b then length P + i else i) e

@@ -7,10 +7,10 @@ use Rattle.std.proofs.lemmas.Bool.{cases_eq, eq-eqb, ne_eqb}
 use Rattle.ev_terms.specs.declared.types.Ty.{Ty}
 use Rattle.ev_unify.specs.declared.patterns.Pat.{Pat}
 use Rattle.ev_unify.specs.declared.cells.Couple.{Couple}
-use Rattle.ev_unify.specs.Parts.{children_of, is_unknown}
-use Rattle.ev_unify.specs.Numbered.{part, type_of, IsFlat}
-use Rattle.ev_unify.specs.Links.{height, total_height, Linked, IsForest, IsRoot, SameChildren, Agrees, Shortens, IsRootOf, paired, Joins, NeverSame, NeverLinked}
-use Rattle.ev_unify.specs.Clashes.{SameForm}
+use Rattle.ev_unify.specs.inner.Parts.{children_of, is_unknown}
+use Rattle.ev_unify.specs.inner.Numbered.{part, type_of, IsFlat}
+use Rattle.ev_unify.specs.inner.Links.{height, total_height, Linked, IsForest, IsRoot, SameChildren, Agrees, Shortens, IsRootOf, paired, Joins, NeverSame, NeverLinked}
+use Rattle.ev_unify.specs.inner.Clashes.{SameForm}
 use Rattle.ev_unify.proofs.Siding.{joined_append, joined_front, joined_back, below_append}
 use Rattle.ev_unify.proofs.Heights.{known_below, total-set}
 use Rattle.ev_unify.proofs.Forest.{children_at, children_from}

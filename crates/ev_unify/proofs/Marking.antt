@@ -8,8 +8,8 @@ use Rattle.ev_unify.specs.declared.patterns.Pat.{Pat}
 use Rattle.ev_unify.specs.declared.ranks.Mark.{Mark}
 use Rattle.ev_unify.specs.declared.ranks.Mark.TheVariants.{New, Open, Done}
 use Rattle.ev_unify.specs.declared.ranks.Visit.{Visit}
-use Rattle.ev_unify.specs.Numbered.{IsFlat}
-use Rattle.ev_unify.specs.Ranks.{mark, IsDone, IsVisit, IsPath, IsOn, GoesOn, count_new, left_on, labor}
+use Rattle.ev_unify.specs.inner.Numbered.{IsFlat}
+use Rattle.ev_unify.specs.inner.Ranks.{mark, IsDone, IsVisit, IsPath, IsOn, GoesOn, count_new, left_on, labor}
 
 -- marks
 pub set_same : (M : List Mark) (t x : ℕ) (m : Mark) → t < length M → x ≡ t → mark (set M t m) x ≡ m

@@ -4,8 +4,8 @@ use Rattle.std.proofs.Common.{ap, sym, ◌∙◌, arith, subst, length-append}
 use Rattle.ev_terms.specs.declared.types.Ty.{Ty}
 use Rattle.ev_unify.specs.declared.patterns.Pat.{Pat}
 use Rattle.ev_unify.specs.declared.cells.Couple.{Couple}
-use Rattle.ev_unify.specs.Numbered.{type_of, Joined, AllBelow}
-use Rattle.ev_unify.specs.Links.{effort, Joins, NeverLinked, NeverJoined, IsMerging, IsMerged}
+use Rattle.ev_unify.specs.inner.Numbered.{type_of, Joined, AllBelow}
+use Rattle.ev_unify.specs.inner.Links.{effort, Joins, NeverLinked, NeverJoined, IsMerging, IsMerged}
 use Rattle.ev_unify.proofs.Siding.{joined_append, joined_front, joined_back, below_front, below_back}
 
 pub merge_more : (P : List Pat) (F L0 : List ℕ) (work0 : List Couple) (L : List ℕ) (work rest : List Couple) (c : Couple) (L' : List ℕ) (work' : List Couple) → IsMerging P F L0 work0 L work → work ≡ rest ++ c ∷ [] → Joins P F L rest L' work' c.left c.right → IsMerging P F L0 work0 L' work'

@@ -3,8 +3,8 @@ use Rattle.std.specs.Prelude.{◌≡◌, ℕ, zero, suc, ◌+◌, ◌<◌, ◌�
 use Rattle.std.proofs.Common.{ap, sym, ◌∙◌, arith, inl, inr, append_assoc, append-nil, add-one, length-append}
 use Rattle.ev_terms.specs.declared.types.Ty.{Ty}
 use Rattle.ev_unify.specs.declared.cells.Couple.{Couple}
-use Rattle.ev_unify.specs.Numbered.{Joined, AllBelow}
-use Rattle.ev_unify.specs.Links.{paired}
+use Rattle.ev_unify.specs.inner.Numbered.{Joined, AllBelow}
+use Rattle.ev_unify.specs.inner.Links.{paired}
 use Rattle.ev_unify.proofs.Siding.{joined_append, joined_front, joined_back, below_append}
 use Rattle.ev_unify.proofs.Spread.{split_last}
 

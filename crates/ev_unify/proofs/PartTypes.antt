@@ -6,10 +6,10 @@ use Rattle.ev_terms.specs.declared.types.Ty.{Ty}
 use Rattle.ev_terms.specs.Measures.{type_size}
 use Rattle.ev_unify.specs.declared.patterns.Pat.{Pat, Int}
 use Rattle.ev_unify.specs.Patterns.{value}
-use Rattle.ev_unify.specs.Parts.{children_of, is_unknown}
-use Rattle.ev_unify.specs.Numbered.{part, type_of, IsFlat}
-use Rattle.ev_unify.specs.Links.{SameChildren, NeverSame}
-use Rattle.ev_unify.specs.Clashes.{SameForm}
+use Rattle.ev_unify.specs.inner.Parts.{children_of, is_unknown}
+use Rattle.ev_unify.specs.inner.Numbered.{part, type_of, IsFlat}
+use Rattle.ev_unify.specs.inner.Links.{SameChildren, NeverSame}
+use Rattle.ev_unify.specs.inner.Clashes.{SameForm}
 use Rattle.ev_unify.proofs.Parts.{value_by, head_by, children_by, smaller_child}
 
 -- the type of a child

@@ -8,9 +8,9 @@ use Rattle.ev_terms.specs.Types.{pow, prod}
 use Rattle.ev_unify.specs.declared.patterns.Pat.{Pat}
 use Rattle.ev_unify.specs.declared.cells.Couple.{Couple}
 use Rattle.ev_unify.specs.Patterns.{value}
-use Rattle.ev_unify.specs.Parts.{is_unknown}
-use Rattle.ev_unify.specs.Numbered.{part, type_of, HasHomes, Joined, AllBelow}
-use Rattle.ev_unify.specs.Links.{height, Linked, IsForest, SameChildren, Agrees, Shortens, IsRootOf, IsMerging, IsMerged, NeverJoined, RootsAre, IsPartition}
+use Rattle.ev_unify.specs.inner.Parts.{is_unknown}
+use Rattle.ev_unify.specs.inner.Numbered.{part, type_of, HasHomes, Joined, AllBelow}
+use Rattle.ev_unify.specs.inner.Links.{height, Linked, IsForest, SameChildren, Agrees, Shortens, IsRootOf, IsMerging, IsMerged, NeverJoined, RootsAre, IsPartition}
 use Rattle.ev_unify.proofs.Spread.{split_last, known_or}
 use Rattle.ev_unify.proofs.Heights.{height_unknown, known_alike}
 use Rattle.ev_unify.proofs.Forest.{children_refl, children_trans, children_at, shortens_trans}

@@ -10,7 +10,7 @@ use Rattle.ev_unify.specs.declared.patterns.Pats.{Pats, Empty}
 use Rattle.ev_unify.specs.declared.patterns.Pat.TheVariants.{Pow, Prod}
 use Rattle.ev_unify.specs.declared.patterns.Pats.TheVariants.{More}
 use Rattle.ev_unify.specs.Patterns.{pow_pat, prod_pat, more_pats, PowPat-pow_pat, ProdPat-prod_pat, MorePats-more_pats, pat_list, value, values}
-use Rattle.ev_unify.specs.Parts.{Head, int_head, bool_head, prop_head, param_head, pow_head, prod_head, data_head, unknown_head, head, children_of, is_unknown}
+use Rattle.ev_unify.specs.inner.Parts.{Head, int_head, bool_head, prop_head, param_head, pow_head, prod_head, data_head, unknown_head, head, children_of, is_unknown}
 
 -- at what the code writes
 pub head-Pow : (a : Pat) → head (Pow a) ≡ pow_head

@@ -8,10 +8,10 @@ use Rattle.ev_unify.specs.declared.patterns.Pat.{Pat}
 use Rattle.ev_unify.specs.declared.ranks.Mark.{Mark}
 use Rattle.ev_unify.specs.declared.ranks.Mark.TheVariants.{New, Open, Done}
 use Rattle.ev_unify.specs.declared.ranks.Visit.{Visit}
-use Rattle.ev_unify.specs.Parts.{children_of}
-use Rattle.ev_unify.specs.Numbered.{part, type_of, IsFlat}
-use Rattle.ev_unify.specs.Links.{Linked, IsClosed}
-use Rattle.ev_unify.specs.Ranks.{mark, IsDone, IsRankedSoFar, IsRanked, IsVisit, IsPath, IsOn, IsWalking, IsResting, GoesOn, NeverRanked, AreNew}
+use Rattle.ev_unify.specs.inner.Parts.{children_of}
+use Rattle.ev_unify.specs.inner.Numbered.{part, type_of, IsFlat}
+use Rattle.ev_unify.specs.inner.Links.{Linked, IsClosed}
+use Rattle.ev_unify.specs.inner.Ranks.{mark, IsDone, IsRankedSoFar, IsRanked, IsVisit, IsPath, IsOn, IsWalking, IsResting, GoesOn, NeverRanked, AreNew}
 use Rattle.ev_unify.proofs.Spread.{split_last}
 use Rattle.ev_unify.proofs.PartTypes.{child_smaller}
 use Rattle.ev_unify.proofs.Marking.{set_same, set_other, done_or, neither, done_after, done_opened, done_before, goes_refl, goes_trans, goes_done, goes_open, visit_marks, path_marks, path_top, path_rest, path_move, path_push, on_split, on_front, on_last, labor_done, labor_next, labor_down}

@@ -8,8 +8,8 @@ use Rattle.ev_unify.specs.declared.patterns.PatPair.{PatPair}
 use Rattle.ev_unify.specs.declared.cells.Couple.{Couple}
 use Rattle.ev_unify.specs.Patterns.{value}
 use Rattle.ev_unify.specs.Solutions.{Solves}
-use Rattle.ev_unify.specs.Numbered.{part, type_of, Joined, AllBelow}
-use Rattle.ev_unify.specs.Sides.{HasSides}
+use Rattle.ev_unify.specs.inner.Numbered.{part, type_of, Joined, AllBelow}
+use Rattle.ev_unify.specs.inner.Sides.{HasSides}
 
 pub solves_append : (σ : ℕ → Ty) (ps qs : List PatPair) → Solves σ ps → Solves σ qs → Solves σ (ps ++ qs)
 solves_append σ [] qs a b = b

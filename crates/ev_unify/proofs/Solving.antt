@@ -9,13 +9,13 @@ use Rattle.ev_unify.specs.declared.patterns.Bind.{Bind}
 use Rattle.ev_unify.specs.declared.patterns.PatPair.{PatPair}
 use Rattle.ev_unify.specs.declared.cells.Couple.{Couple}
 use Rattle.ev_unify.specs.Patterns.{pow_pat, prod_pat, more_pats, pat_list, value, has_unknown, have_unknown}
-use Rattle.ev_unify.specs.Parts.{children_of, is_unknown, is_at}
-use Rattle.ev_unify.specs.Numbered.{part, type_of, IsFlat, HasHomes, Joined, AllBelow}
-use Rattle.ev_unify.specs.Sides.{HasSides}
-use Rattle.ev_unify.specs.Cells.{IsCells}
-use Rattle.ev_unify.specs.Links.{Linked, SameChildren, IsPartition, IsClosed, AreClasses}
-use Rattle.ev_unify.specs.Ranks.{IsRanked, NeverRanked}
-use Rattle.ev_unify.specs.Binding.{ComesFrom, HasBinds}
+use Rattle.ev_unify.specs.inner.Parts.{children_of, is_unknown, is_at}
+use Rattle.ev_unify.specs.inner.Numbered.{part, type_of, IsFlat, HasHomes, Joined, AllBelow}
+use Rattle.ev_unify.specs.inner.Sides.{HasSides}
+use Rattle.ev_unify.specs.inner.Cells.{IsCells}
+use Rattle.ev_unify.specs.inner.Links.{Linked, SameChildren, IsPartition, IsClosed, AreClasses}
+use Rattle.ev_unify.specs.inner.Ranks.{IsRanked, NeverRanked}
+use Rattle.ev_unify.specs.inner.Binding.{ComesFrom, HasBinds}
 use Rattle.ev_unify.specs.Solutions.{Solves, HasSolution, bound_to, Meets, IsUnifier, follow, FollowsToGeneral}
 use Rattle.ev_unify.proofs.Followed.{unifier_general, follow_step}
 use Rattle.ev_unify.proofs.Siding.{sides_grown}

@@ -6,9 +6,9 @@ use Rattle.std.proofs.lemmas.Bool.{eqb-true, eq-eqb, cases_lt}
 use Rattle.ev_unify.specs.declared.patterns.Pat.{Pat, Int, Bool, Param, Data, Unknown}
 use Rattle.ev_unify.specs.declared.patterns.Pats.{Pats, Empty}
 use Rattle.ev_unify.specs.Patterns.{pow_pat, prod_pat, more_pats, pat_list}
-use Rattle.ev_unify.specs.Parts.{children_of, is_unknown, is_at}
-use Rattle.ev_unify.specs.Numbered.{part, HasChildren, HasPlaces, HasHomes, home_of, place_with}
-use Rattle.ev_unify.specs.Cells.{IsCells, AreNumbered}
+use Rattle.ev_unify.specs.inner.Parts.{children_of, is_unknown, is_at}
+use Rattle.ev_unify.specs.inner.Numbered.{part, HasChildren, HasPlaces, HasHomes, home_of, place_with}
+use Rattle.ev_unify.specs.inner.Cells.{IsCells, AreNumbered}
 use Rattle.ev_unify.proofs.Siding.{part_before}
 
 pub split_last : (j i : ℕ) → j < i + 1 → (j < i) ⊎ (j ≡ i)

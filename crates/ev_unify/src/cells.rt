@@ -1,10 +1,10 @@
 ghost use Rattle.std.specs.Prelude.{◌≡◌, ◌↔◌, ◌+◌, ◌<◌, ℕ, [], ◌∷◌, ◌++◌, length, slice_index, nat_eq, IsTrue, IfOk, OnOk, OnErr};
 ghost use Rattle.std.specs.HashMap.{get};
 ghost use Rattle.ev_unify.specs.Patterns.{pat_list};
-ghost use Rattle.ev_unify.specs.Parts.{head, children_of, is_unknown};
-ghost use Rattle.ev_unify.specs.Numbered.{part, IsFlat, home_of, place_with};
-ghost use Rattle.ev_unify.specs.Sides.{HasSides};
-ghost use Rattle.ev_unify.specs.Cells.{IsCells};
+ghost use Rattle.ev_unify.specs.inner.Parts.{head, children_of, is_unknown};
+ghost use Rattle.ev_unify.specs.inner.Numbered.{part, IsFlat, home_of, place_with};
+ghost use Rattle.ev_unify.specs.inner.Sides.{HasSides};
+ghost use Rattle.ev_unify.specs.inner.Cells.{IsCells};
 
 use crate::patterns::{Pat, PatPairs, Pats};
 use ev_terms::{NoMemory, Same, Shared, TryCopy};

@@ -1,9 +1,9 @@
 ghost use Rattle.std.specs.Prelude.{◌≡◌, ◌≢◌, ℕ, ◌+◌, ◌<◌, ◌≤◌, true, false, ◌++◌, length, slice_index, IfOk, IfErr, OnOk};
-ghost use Rattle.ev_unify.specs.Parts.{head, children_of, is_unknown};
-ghost use Rattle.ev_unify.specs.Numbered.{part, type_of, Joined, IsFlat, HasHomes, AllBelow};
+ghost use Rattle.ev_unify.specs.inner.Parts.{head, children_of, is_unknown};
+ghost use Rattle.ev_unify.specs.inner.Numbered.{part, type_of, Joined, IsFlat, HasHomes, AllBelow};
 ghost use Rattle.ev_terms.specs.declared.types.Ty.{Ty};
-ghost use Rattle.ev_unify.specs.Links.{height, IsForest, IsRoot, Shortens, IsRootOf, paired, Joins, NeverSame, NeverLinked, IsMerging, IsMerged, NeverJoined, RootsAre, IsPartition};
-ghost use Rattle.ev_unify.specs.Clashes.{OnClash, SameForm};
+ghost use Rattle.ev_unify.specs.inner.Links.{height, IsForest, IsRoot, Shortens, IsRootOf, paired, Joins, NeverSame, NeverLinked, IsMerging, IsMerged, NeverJoined, RootsAre, IsPartition};
+ghost use Rattle.ev_unify.specs.inner.Clashes.{OnClash, SameForm};
 
 use crate::cells::{Cells, Couple, append, is_unknown, same_head};
 use crate::patterns::UnifyFault;

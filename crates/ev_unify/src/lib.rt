@@ -7,8 +7,6 @@ mod classes;
 pub mod patterns;
 mod ranks;
 mod solve;
-#[cfg(test)]
-mod tests;
 
 pub use patterns::{Bind, Pat, PatPair, PatPairs, Pats, Solution, UnifyFault};
 pub use solve::unify;

@@ -1,9 +1,9 @@
 ghost use Rattle.std.specs.Prelude.{◌≡◌, ℕ, ◌+◌, ◌<◌, [], ◌∷◌, ◌++◌, length, slice_index, slice_set, IfOk, IfErr, OnOk};
 ghost use Rattle.ev_unify.specs.declared.ranks.Mark.TheVariants.{New, Open};
-ghost use Rattle.ev_unify.specs.Numbered.{IsFlat};
-ghost use Rattle.ev_unify.specs.Ranks.{IsRanked, IsWalking, IsResting, GoesOn, IsDone, labor, mark, NeverRanked, AreNew};
-ghost use Rattle.ev_unify.specs.Clashes.{OnClash};
-ghost use Rattle.ev_unify.specs.Links.{IsClosed};
+ghost use Rattle.ev_unify.specs.inner.Numbered.{IsFlat};
+ghost use Rattle.ev_unify.specs.inner.Ranks.{IsRanked, IsWalking, IsResting, GoesOn, IsDone, labor, mark, NeverRanked, AreNew};
+ghost use Rattle.ev_unify.specs.inner.Clashes.{OnClash};
+ghost use Rattle.ev_unify.specs.inner.Links.{IsClosed};
 
 use crate::cells::{Cells, append};
 use crate::patterns::UnifyFault;

@@ -1,9 +1,9 @@
 ghost use Rattle.std.specs.Prelude.{◌≡◌, ◌<◌, ◌+◌, length, IfOk, IfErr, OnOk, slice_index};
-ghost use Rattle.ev_unify.specs.Parts.{is_at};
-ghost use Rattle.ev_unify.specs.Numbered.{HasHomes};
-ghost use Rattle.ev_unify.specs.Links.{AreClasses};
-ghost use Rattle.ev_unify.specs.Binding.{HasBinds};
-ghost use Rattle.ev_unify.specs.Clashes.{OnClash};
+ghost use Rattle.ev_unify.specs.inner.Parts.{is_at};
+ghost use Rattle.ev_unify.specs.inner.Numbered.{HasHomes};
+ghost use Rattle.ev_unify.specs.inner.Links.{AreClasses};
+ghost use Rattle.ev_unify.specs.inner.Binding.{HasBinds};
+ghost use Rattle.ev_unify.specs.inner.Clashes.{OnClash};
 ghost use Rattle.ev_unify.specs.Solutions.{HasSolution, IsUnifier, BindsOnce, FollowsToGeneral};
 
 use crate::cells::{Cells, sides};

@@ -4,7 +4,7 @@ use Rattle.ev_imports.specs.declared.cycle.Found.{Found}
 use Rattle.ev_imports.specs.Cycles.{IsFirstCycle}
 use Rattle.ev_imports.specs.Walks.{HasNoCycle}
 use Rattle.ev_imports.proofs.Search.{no_cycle}
-use Rattle.ev_imports.specs.Found.{IsTrail}
+use Rattle.ev_imports.specs.inner.Found.{IsTrail}
 use Rattle.ev_imports.proofs.Rows.{RowSearched, search_starts, row_closes, row_known, row_found, row_end}
 use Rattle.ev_imports.proofs.cycle.first_cycle.Goals as goal
 use Rattle.ev_imports.proofs.cycle.first_cycle.Goals.{then-not-index+in_ok-append-2, else-not-index}

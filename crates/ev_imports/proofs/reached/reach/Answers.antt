@@ -1,7 +1,7 @@
 use Rattle.ev_imports.specs.declared.reached.Frame.{Frame}
 use Rattle.std.proofs.lemmas.Grind.{common_steps}
 use Rattle.ev_imports.specs.Reached.{reached}
-use Rattle.ev_imports.specs.Listing.{ListsReached}
+use Rattle.ev_imports.specs.inner.Listing.{ListsReached}
 use Rattle.ev_imports.proofs.Listing.{lists_reached}
 use Rattle.ev_imports.proofs.Parts.{reached-concat}
 use Rattle.std.proofs.Common.{◌≡◌, ℕ, List, ◌∷◌, ◌++◌, [], length, ap, sym, subst, ◌∙◌, inl, inr, arith, refl}

@@ -1,7 +1,7 @@
 use Rattle.std.proofs.Common.{rules, ◌≡◌, ◌==◌, ap, ◌∙◌}
-use Rattle.ev_raw.specs.Raw.{call}
-use Rattle.ev_raw.specs.RawView.{raws}
-use Rattle.ev_infer.specs.Variables.{is_name}
+use Rattle.ev_syntax.specs.Raw.{call}
+use Rattle.ev_syntax.specs.inner.RawView.{raws}
+use Rattle.ev_infer.specs.inner.Variables.{is_name}
 use Rattle.ev_infer.proofs.VariableSteps.{named_call}
 use Rattle.ev_infer.proofs.alone.+is_name.Goals as goal
 

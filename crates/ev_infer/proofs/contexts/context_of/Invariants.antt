@@ -1,7 +1,7 @@
 use Rattle.std.proofs.Common.{◌≡◌, ◌++◌, map, drop}
-use Rattle.ev_annotate.specs.Inference.{variable_patterns}
+use Rattle.ev_infer.specs.Inference.{variable_patterns}
 use Rattle.ev_infer.specs.Answers.{variables}
-use Rattle.ev_infer.specs.Mended.{mended}
+use Rattle.ev_infer.specs.inner.Mended.{mended}
 use Rattle.ev_infer.proofs.contexts.context_of.Given as goal
 
 abbrev pub invariant-loop-var : goal.invariant-loop-var

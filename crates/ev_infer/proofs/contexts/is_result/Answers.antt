@@ -1,4 +1,4 @@
-use Rattle.ev_annotate.proofs.PatternSteps.{result_plain}
+use Rattle.ev_infer.proofs.PatternSteps.{result_plain}
 use Rattle.ev_infer.proofs.contexts.is_result.Goals as goal
 
 pub returns-in_default : goal.returns-in_default

@@ -1,5 +1,5 @@
 use Rattle.std.proofs.Common.{◌≡◌, ◌≤◌, length, reverse, drop}
-use Rattle.ev_annotate.specs.Annotates.{variable_names}
+use Rattle.ev_resolve.specs.UsedNames.{variable_names}
 use Rattle.ev_infer.specs.Answers.{variables}
 use Rattle.ev_infer.proofs.contexts.names_of.Given as goal
 

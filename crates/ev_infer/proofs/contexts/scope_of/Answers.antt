@@ -2,8 +2,8 @@ use Rattle.std.specs.Prelude.{◌≤◌, length}
 use Rattle.std.proofs.Common.{rules, ◌++◌, ◌∙◌, ap, sym, map}
 use Rattle.std.proofs.lemmas.List.{append-nil}
 use Rattle.ev_typing.proofs.Names.{drop_all}
-use Rattle.ev_annotate.specs.Resolve.{forget}
-use Rattle.ev_reading.specs.Scopes.{seen}
+use Rattle.ev_resolve.specs.Resolve.{forget}
+use Rattle.ev_resolve.specs.inner.Scopes.{seen}
 use Rattle.ev_infer.specs.Answers.{variables}
 use Rattle.ev_infer.proofs.ContextSteps.{scope_told}
 use Rattle.ev_infer.proofs.contexts.scope_of.Goals as goal

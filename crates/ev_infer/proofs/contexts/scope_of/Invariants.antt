@@ -1,6 +1,6 @@
 use Rattle.std.proofs.Common.{◌≡◌, ◌++◌, map, drop}
-use Rattle.ev_annotate.specs.Resolve.{forget}
-use Rattle.ev_reading.specs.Scopes.{seen}
+use Rattle.ev_resolve.specs.Resolve.{forget}
+use Rattle.ev_resolve.specs.inner.Scopes.{seen}
 use Rattle.ev_infer.specs.Answers.{variables}
 use Rattle.ev_infer.proofs.contexts.scope_of.Given as goal
 

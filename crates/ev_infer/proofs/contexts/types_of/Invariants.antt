@@ -1,5 +1,5 @@
 use Rattle.std.proofs.Common.{◌≡◌, ◌++◌, drop}
-use Rattle.ev_annotate.specs.Annotates.{variables_context}
+use Rattle.ev_infer.specs.Annotates.{variables_context}
 use Rattle.ev_infer.specs.Answers.{variables}
 use Rattle.ev_infer.proofs.contexts.types_of.Given as goal
 

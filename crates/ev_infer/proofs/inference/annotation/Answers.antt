@@ -1,7 +1,7 @@
 use Rattle.std.specs.Prelude.{None}
 use Rattle.std.proofs.Common.{rules, ◌≡◌}
 use Rattle.std.specs.Option.{option_copied}
-use Rattle.ev_reading.specs.Scopes.{scope_of}
+use Rattle.ev_resolve.specs.inner.Scopes.{scope_of}
 use Rattle.ev_infer.proofs.Answering.{found_of, found_none}
 use Rattle.ev_infer.proofs.inference.annotation.Goals as goal
 

@@ -1,6 +1,6 @@
 use Rattle.std.proofs.Common.{◌≡◌, ◌*◌, ◌+◌, reverse, drop}
-use Rattle.ev_annotate.specs.BareView.{bares, height, heights}
-use Rattle.ev_infer.specs.Marked.{use_marked}
+use Rattle.ev_resolve.specs.inner.BareView.{bares, height, heights}
+use Rattle.ev_infer.specs.inner.Marked.{use_marked}
 use Rattle.ev_infer.proofs.marked.+uses.Given as goal
 
 abbrev pub decreases-uses_marked : goal.decreases-uses_marked

@@ -1,5 +1,5 @@
 use Rattle.std.proofs.Common.{subst, sym, ◌∙◌}
-use Rattle.ev_formulas.specs.FormulaAnswers.{ExpressionAnswer}
+use Rattle.ev_parse.specs.inner.FormulaAnswers.{ExpressionAnswer}
 use Rattle.ev_parse.proofs.ItemMoves.{no_expr, open_expr, expr_item}
 use Rattle.ev_parse.proofs.items.expression_item.Goals as goal
 

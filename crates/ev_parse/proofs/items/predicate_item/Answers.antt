@@ -1,5 +1,5 @@
 use Rattle.std.proofs.Common.{subst, sym, ◌∙◌}
-use Rattle.ev_formulas.specs.FormulaAnswers.{PredicateAnswer}
+use Rattle.ev_parse.specs.inner.FormulaAnswers.{PredicateAnswer}
 use Rattle.ev_parse.proofs.ItemMoves.{no_pred, open_pred, pred_item}
 use Rattle.ev_parse.proofs.items.predicate_item.Goals as goal
 

@@ -1,5 +1,5 @@
 use Rattle.std.proofs.Common.{subst, sym, ◌∙◌}
-use Rattle.ev_raw.specs.TypeFrames.{TypeAnswer}
+use Rattle.ev_syntax.specs.inner.TypeFrames.{TypeAnswer}
 use Rattle.ev_parse.proofs.ItemMoves.{no_type, open_type, type_item}
 use Rattle.ev_parse.proofs.items.type_item.Goals as goal
 

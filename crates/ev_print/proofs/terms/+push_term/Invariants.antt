@@ -2,7 +2,7 @@ use Rattle.std.proofs.Common.{◌≡◌, ◌+◌, ◌*◌, ◌++◌, drop}
 use Rattle.ev_terms.specs.Term.{terms}
 use Rattle.ev_terms.specs.Measures.{depth, depths}
 use Rattle.ev_print.specs.Canon.{texts, pieces}
-use Rattle.ev_print.specs.Lists.{after_commas}
+use Rattle.ev_print.specs.inner.Lists.{after_commas}
 use Rattle.ev_print.proofs.terms.+push_term.Given as goal
 
 abbrev pub decreases-push_term : goal.decreases-push_term

@@ -1,7 +1,7 @@
 use Rattle.std.proofs.Common.{◌≡◌, ◌+◌, ◌*◌, ◌++◌, ◌≤◌}
 use Rattle.ev_terms.specs.Measures.{type_size, types_size}
 use Rattle.ev_print.specs.Canon.{type_texts}
-use Rattle.ev_print.specs.Lists.{after_commas}
+use Rattle.ev_print.specs.inner.Lists.{after_commas}
 use Rattle.ev_print.proofs.type_texts.+push_type.Given as goal
 
 abbrev pub decreases-push_type : goal.decreases-push_type

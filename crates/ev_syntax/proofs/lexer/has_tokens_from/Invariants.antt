@@ -1,6 +1,6 @@
 use Rattle.std.proofs.Common.{◌-◌, length, List}
 use Rattle.ev_syntax.specs.Tokens.{Spanned}
-use Rattle.ev_syntax.specs.Reading.{ReadsTo}
+use Rattle.ev_syntax.specs.inner.Reading.{ReadsTo}
 use Rattle.ev_syntax.proofs.lexer.has_tokens_from.Given as goal
 
 abbrev pub invariant-pieces : goal.invariant-pieces

@@ -3,7 +3,7 @@ use Rattle.std.proofs.Common.{subst}
 use Rattle.std.specs.Prelude.{IfOk}
 use Rattle.std.specs.List.{All}
 use Rattle.ev_syntax.specs.Laws.{AreSpans}
-use Rattle.ev_syntax.specs.Reading.{IsAnswer}
+use Rattle.ev_syntax.specs.inner.Reading.{IsAnswer}
 use Rattle.ev_syntax.specs.Views.{all_seen_in, LiesIn}
 use Rattle.ev_syntax.proofs.Spans.{answer_spans, answer_within}
 use Rattle.ev_syntax.proofs.Answering.{exactly_bad, exactly_large, answer_succeeds}

@@ -1,7 +1,7 @@
 -- The tokens found so far, and what comes after them.
 use Rattle.std.proofs.Common.{rules, sym, subst}
 use Rattle.ev_syntax.specs.Views.{seen_in, all_seen_in}
-use Rattle.ev_syntax.specs.Reading.{ReadsTo, AreSmall}
+use Rattle.ev_syntax.specs.inner.Reading.{ReadsTo, AreSmall}
 use Rattle.ev_syntax.proofs.Characters.{first_place}
 use Rattle.ev_syntax.proofs.Continuing.{reads_start, reads_end, closer, bad_text, text_has}
 use Rattle.ev_syntax.proofs.Answering.{token_pushed, none_small, large_answer}

@@ -1,6 +1,6 @@
 use Rattle.std.proofs.Common.{◌-◌, length}
 use Rattle.ev_syntax.specs.Views.{all_seen_in}
-use Rattle.ev_syntax.specs.Reading.{ReadsTo, AreSmall}
+use Rattle.ev_syntax.specs.inner.Reading.{ReadsTo, AreSmall}
 use Rattle.ev_syntax.proofs.lexer.lex_text.Given as goal
 
 abbrev pub invariant-pieces : goal.invariant-pieces

@@ -2,7 +2,7 @@
 use Rattle.std.proofs.Common.{sym, ◌∙◌, ap, arith}
 use Rattle.std.specs.Prelude.{option_map}
 use Rattle.std.proofs.lemmas.Option.{slice_get-map, slice_get-get_or, slice_get_past}
-use Rattle.ev_syntax.specs.Spelled.{text_of}
+use Rattle.ev_syntax.specs.inner.Spelled.{text_of}
 use Rattle.ev_syntax.proofs.marks.text_at.Goals as goal
 
 pub returns-then-row-rows : goal.returns-then-row-rows

@@ -1,6 +1,6 @@
 use Rattle.std.proofs.Common.{◌-◌, length}
 use Rattle.ev_syntax.specs.Chars.{is_blank}
-use Rattle.ev_syntax.specs.Places.{PassesAll}
+use Rattle.ev_syntax.specs.inner.Places.{PassesAll}
 use Rattle.ev_syntax.proofs.runs.blanks_end.Given as goal
 
 abbrev pub invariant-blanks : goal.invariant-blanks

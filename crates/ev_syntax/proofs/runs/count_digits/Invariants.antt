@@ -1,5 +1,5 @@
 use Rattle.std.proofs.Common.{◌-◌, length}
-use Rattle.ev_syntax.specs.Places.{CountsTo}
+use Rattle.ev_syntax.specs.inner.Places.{CountsTo}
 use Rattle.ev_syntax.proofs.runs.count_digits.Given as goal
 
 abbrev pub invariant-digits : goal.invariant-digits

@@ -1,4 +1,4 @@
-use Rattle.ev_syntax.specs.Places.{IsLongest}
+use Rattle.ev_syntax.specs.inner.Places.{IsLongest}
 use Rattle.ev_syntax.proofs.runs.sign_at.Given as goal
 
 abbrev pub invariant-sizes : goal.invariant-sizes

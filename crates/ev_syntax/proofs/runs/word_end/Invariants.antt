@@ -1,6 +1,6 @@
 use Rattle.std.proofs.Common.{◌-◌, length}
 use Rattle.unicode_ident.specs.Ident.{is_xid_continue}
-use Rattle.ev_syntax.specs.Places.{PassesAll}
+use Rattle.ev_syntax.specs.inner.Places.{PassesAll}
 use Rattle.ev_syntax.proofs.runs.word_end.Given as goal
 
 abbrev pub invariant-words : goal.invariant-words

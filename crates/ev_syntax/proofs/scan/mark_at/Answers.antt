@@ -1,7 +1,7 @@
 -- What is no word and no number is a sign or nothing.
 use Rattle.std.proofs.Common.{drop, subst, ap, ◌∙◌, List, ℕ}
 use Rattle.std.proofs.lemmas.List.{take_rest}
-use Rattle.ev_syntax.specs.Places.{IsLongest}
+use Rattle.ev_syntax.specs.inner.Places.{IsLongest}
 use Rattle.ev_syntax.proofs.Stands.{mark_stands}
 use Rattle.ev_syntax.proofs.Fronts.{none_begins}
 use Rattle.ev_syntax.proofs.scan.mark_at.Goals as goal

@@ -1,5 +1,5 @@
 use Rattle.std.proofs.Common.{ap, ◌∙◌}
-use Rattle.ev_unify.specs.Parts.{head, int_head, bool_head, param_head, pow_head, prod_head, data_head, unknown_head}
+use Rattle.ev_unify.specs.inner.Parts.{head, int_head, bool_head, param_head, pow_head, prod_head, data_head, unknown_head}
 use Rattle.ev_unify.proofs.Parts.{head-Pow, head-Prod, differ, int_only, bool_only, param_only, pow_only, prod_only, data_only, unknown_only}
 use Rattle.ev_unify.proofs.cells.same_head.Goals as goal
 

@@ -1,5 +1,5 @@
 use Rattle.std.proofs.Common.{take}
-use Rattle.ev_unify.specs.Sides.{HasSides}
+use Rattle.ev_unify.specs.inner.Sides.{HasSides}
 use Rattle.ev_unify.proofs.cells.sides.Given as goal
 
 abbrev pub invariant-loop-pair : goal.invariant-loop-pair

@@ -1,8 +1,8 @@
 use Rattle.std.specs.Prelude.{ℕ}
 use Rattle.std.proofs.lemmas.Result.{err_from_is_err_and}
 use Rattle.ev_terms.specs.declared.types.Ty.{Ty}
-use Rattle.ev_unify.specs.Numbered.{type_of, Joined}
-use Rattle.ev_unify.specs.Ranks.{NeverRanked}
+use Rattle.ev_unify.specs.inner.Numbered.{type_of, Joined}
+use Rattle.ev_unify.specs.inner.Ranks.{NeverRanked}
 use Rattle.ev_unify.specs.Solutions.{HasSolution}
 use Rattle.ev_unify.proofs.Solving.{cells_below, unify_found, unify_general, unify_solvable, clash_joined, clash_ranked}
 use Rattle.ev_unify.proofs.Faults.{clash_weaker}

@@ -2,8 +2,8 @@ use Rattle.std.specs.Prelude.{ℕ}
 use Rattle.std.proofs.Common.{◌∙◌}
 use Rattle.std.proofs.lemmas.Result.{err_from_is_err_and}
 use Rattle.ev_terms.specs.declared.types.Ty.{Ty}
-use Rattle.ev_unify.specs.Numbered.{type_of, Joined}
-use Rattle.ev_unify.specs.Links.{NeverJoined}
+use Rattle.ev_unify.specs.inner.Numbered.{type_of, Joined}
+use Rattle.ev_unify.specs.inner.Links.{NeverJoined}
 use Rattle.ev_unify.proofs.Partition.{merging_start, never_joined, classes_are}
 use Rattle.ev_unify.proofs.Faults.{clash_weaker}
 use Rattle.ev_unify.proofs.cells.Cells.classes.Goals as goal

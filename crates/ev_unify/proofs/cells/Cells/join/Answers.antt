@@ -1,5 +1,5 @@
 use Rattle.std.proofs.lemmas.Result.{err_from_is_err_and}
-use Rattle.ev_unify.specs.Links.{NeverSame, NeverLinked}
+use Rattle.ev_unify.specs.inner.Links.{NeverSame, NeverLinked}
 use Rattle.ev_unify.proofs.Joining.{joins_after, never_after}
 use Rattle.ev_unify.proofs.Faults.{clash_weaker}
 use Rattle.ev_unify.proofs.cells.Cells.join.Goals as goal

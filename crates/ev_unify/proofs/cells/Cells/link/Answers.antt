@@ -1,8 +1,8 @@
 use Rattle.std.proofs.Common.{ap, sym, ◌∙◌}
 use Rattle.std.proofs.lemmas.Result.{err_from_is_err_and}
-use Rattle.ev_unify.specs.Parts.{is_unknown}
-use Rattle.ev_unify.specs.Links.{NeverSame}
-use Rattle.ev_unify.specs.Clashes.{SameForm}
+use Rattle.ev_unify.specs.inner.Parts.{is_unknown}
+use Rattle.ev_unify.specs.inner.Links.{NeverSame}
+use Rattle.ev_unify.specs.inner.Clashes.{SameForm}
 use Rattle.ev_unify.proofs.Joining.{joins_unknown, joins_known, joins_never}
 use Rattle.ev_unify.proofs.Faults.{clash_weaker}
 use Rattle.ev_unify.proofs.cells.Cells.link.Goals as goal

@@ -1,5 +1,5 @@
 use Rattle.std.proofs.lemmas.Result.{err_from_is_err_and}
-use Rattle.ev_unify.specs.Links.{NeverLinked, NeverJoined}
+use Rattle.ev_unify.specs.inner.Links.{NeverLinked, NeverJoined}
 use Rattle.ev_unify.proofs.Merging.{merge_more, merge_never, merge_left, merge_right}
 use Rattle.ev_unify.proofs.Faults.{clash_weaker}
 use Rattle.ev_unify.proofs.cells.Cells.merge.Goals as goal

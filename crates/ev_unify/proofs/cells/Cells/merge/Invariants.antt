@@ -1,4 +1,4 @@
-use Rattle.ev_unify.specs.Links.{effort, IsMerging}
+use Rattle.ev_unify.specs.inner.Links.{effort, IsMerging}
 use Rattle.ev_unify.proofs.cells.Cells.merge.Given as goal
 
 abbrev pub invariant-loop-couple : goal.invariant-loop-couple

@@ -1,6 +1,6 @@
 use Rattle.std.proofs.Common.{nat_eq, drop}
 use Rattle.std.specs.HashMap.{get}
-use Rattle.ev_unify.specs.Cells.{AreNumbered}
+use Rattle.ev_unify.specs.inner.Cells.{AreNumbered}
 use Rattle.ev_unify.proofs.Spread.{weight}
 use Rattle.ev_unify.proofs.cells.Cells.new.Given as goal
 

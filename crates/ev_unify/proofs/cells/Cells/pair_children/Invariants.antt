@@ -1,5 +1,5 @@
 use Rattle.std.specs.Prelude.{◌≡◌, ◌++◌}
-use Rattle.ev_unify.specs.Links.{paired}
+use Rattle.ev_unify.specs.inner.Links.{paired}
 use Rattle.ev_unify.proofs.cells.Cells.pair_children.Given as goal
 
 abbrev pub invariant-loop-k : goal.invariant-loop-k

@@ -1,4 +1,4 @@
-use Rattle.ev_unify.specs.Links.{height}
+use Rattle.ev_unify.specs.inner.Links.{height}
 use Rattle.ev_unify.proofs.Forest.{IsWalk}
 use Rattle.ev_unify.proofs.cells.Cells.root.Given as goal
 

@@ -1,4 +1,4 @@
-use Rattle.ev_unify.specs.Links.{RootsAre}
+use Rattle.ev_unify.specs.inner.Links.{RootsAre}
 use Rattle.ev_unify.proofs.cells.Cells.roots.Given as goal
 
 abbrev pub invariant-loop-i : goal.invariant-loop-i

@@ -1,4 +1,4 @@
-use Rattle.ev_unify.specs.Binding.{HasBinds}
+use Rattle.ev_unify.specs.inner.Binding.{HasBinds}
 use Rattle.ev_unify.proofs.cells.Cells.solution.Given as goal
 
 abbrev pub invariant-loop-i : goal.invariant-loop-i

@@ -1,4 +1,4 @@
-use Rattle.ev_unify.specs.Ranks.{labor}
+use Rattle.ev_unify.specs.inner.Ranks.{labor}
 use Rattle.ev_unify.proofs.Ranking.{IsTour}
 use Rattle.ev_unify.proofs.cells.Cells.visit.Given as goal
 

@@ -1,0 +1,64 @@
+//! Cases of the base rules. Each line of the input is a case with commas between its fields: the rule's name, its arguments, and
+//! sequents with `;` between them, the conclusion last. The program writes `follows` or `fails` for each. With `concludes` before the
+//! name, it asks whether the only sequent is a conclusion of the rule without premises, and types are not looked at. Lines that begin
+//! with `--` it writes as they are.
+#![tactic(auto)]
+
+mod fault;
+mod follows;
+mod reading;
+mod rules;
+
+use fault::Fault;
+use follows::{last_follows, only_concludes};
+use reading::read_sequents;
+use rules::read_rule;
+use std::alloc::Global;
+use std::io;
+
+/// The longest line, so that no term that is read nests deeper.
+const LINE_LIMIT: usize = 2_000;
+
+/// Whether the case's last sequent follows.
+fn answer(alloc: Global, case: &str, fields: &[&str], text: &str) -> Result<bool, Fault> {
+    let sequents = read_sequents(alloc, text)?;
+    match case.strip_prefix("concludes ") {
+        Some(name) => {
+            let rule = read_rule(alloc, name, fields)?;
+            only_concludes(alloc, &rule, &sequents)
+        }
+        None => last_follows(alloc, read_rule(alloc, case, fields)?, sequents),
+    }
+}
+
+fn answer_of_line(alloc: Global, line: &str) -> Result<bool, Fault> {
+    if line.len() > LINE_LIMIT {
+        return Err(Fault::NoCase);
+    }
+    let fields: Vec<&str> = line.split(',').map(|field| field.trim()).collect(alloc)?;
+    match fields.as_slice() {
+        [case, fields @ .., text] => answer(alloc, *case, fields, *text),
+        _ => Err(Fault::NoCase),
+    }
+}
+
+fn write_answer(rt: &(impl Print + AllocGlobal), line: &str) -> io::Result<()> {
+    match answer_of_line(rt.alloc(), line) {
+        Ok(true) => rt.println("follows"),
+        Ok(false) => rt.println("fails"),
+        Err(Fault::NoCase) => rt.println("no case"),
+        Err(Fault::NoMemory) => Err(io::Error::from(io::ErrorKind::OutOfMemory)),
+    }
+}
+
+fn main(rt: HostRuntime) -> io::Result<()> {
+    for line in rt.lines(rt.alloc()) {
+        let line = line?;
+        if line.as_str().starts_with("--") {
+            rt.println(line)?;
+        } else {
+            write_answer(&rt, line.as_str())?;
+        }
+    }
+    Ok(())
+}

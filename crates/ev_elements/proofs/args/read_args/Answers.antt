@@ -1,9 +1,0 @@
-use Rattle.std.proofs.lemmas.Result.{IfOk-weaker}
-use Rattle.ev_syntax.specs.Marks.{comma}
-use Rattle.ev_raw.specs.TypeParser.{begins}
-use Rattle.ev_elements.proofs.Listing.{separated_took}
-use Rattle.ev_elements.proofs.Ending.{args_ties}
-use Rattle.ev_elements.proofs.args.read_args.Goals as goal
-
-pub returns : goal.returns
-returns c = IfOk-weaker c.further_args.result _ _ (λ v h. separated_took comma (begins comma) args_ties c.in_ok-arg.ensures c.in_ok-first.ensures h) c.further_args.ensures

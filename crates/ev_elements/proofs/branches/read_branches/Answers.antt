@@ -1,8 +1,0 @@
-use Rattle.std.proofs.lemmas.Result.{IfOk-weaker}
-use Rattle.ev_elements.specs.Taking.{begins_branch}
-use Rattle.ev_elements.proofs.Listing.{at_least_took}
-use Rattle.ev_elements.proofs.Ending.{branches_ties}
-use Rattle.ev_elements.proofs.branches.read_branches.Goals as goal
-
-pub returns : goal.returns
-returns c = IfOk-weaker c.further_branches.result _ _ (λ v h. at_least_took begins_branch branches_ties c.in_ok-branch.ensures c.in_ok-first.ensures h) c.further_branches.ensures

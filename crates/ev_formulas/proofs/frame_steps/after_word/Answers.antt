@@ -1,9 +1,0 @@
-use Rattle.std.proofs.Common.{drop, refl, subst}
-use Rattle.ev_raw.proofs.Resumes.{found_inside}
-use Rattle.ev_formulas.specs.Frames.{tail, around_behind}
-use Rattle.ev_formulas.proofs.OperandMoves.{FoundBy}
-use Rattle.ev_formulas.proofs.frame_steps.after_word.Goals as goal
-
-pub returns-clause-holds : goal.returns-clause-holds
-returns-clause-holds c = λ whole bs cs r f p h le. let t = c.args.reader.now in let at = c.args.at in
-    c.close.ensures.holds whole bs _ (c.in_ok-piece.ensures r p) (found_inside whole bs (tail c.args.k) (around_behind c.args.mark) r (drop at t) _ (subst (λ xs. FoundBy whole bs xs r (drop at t)) f h) (λ n g. refl))

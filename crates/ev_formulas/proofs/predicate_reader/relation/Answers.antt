@@ -1,6 +1,0 @@
-use Rattle.std.proofs.Common.{[], ◌∷◌, ◌++◌, refl, arith}
-use Rattle.ev_formulas.specs.Frames.{stage_tail, related_behind}
-use Rattle.ev_formulas.proofs.predicate_reader.relation.Goals as goal
-
-pub returns-clause-holds : goal.returns-clause-holds
-returns-clause-holds c = λ whole bs le h. (stage_tail c.args.stage ++ related_behind ∷ [], refl, (h, le, omega arith))

@@ -1,0 +1,50 @@
+use Rattle.std.specs.Prelude.{◌≡◌, ◌<◌, ◌++◌, ◌∷◌, [], length, slice_index_or}
+use Rattle.std.proofs.Common.{refl, rules, arith, ap, sym, ◌∙◌}
+use Rattle.ev_unify.specs.declared.patterns.Bind.{Bind}
+use Rattle.ev_infer.proofs.UnknownSteps.{visits_top, visits_rest, bind_inside, top_bound, step_free, step_down, labor_free, labor_done, labor_down}
+use Rattle.ev_infer.proofs.unknowns.step.Goals as goal
+
+pub offset_bounds-binds-visit : goal.offset_bounds-binds-visit
+offset_bounds-binds-visit c =
+    let (a, b, d) = visits_top c.args.binds.now (length c.args.marks.now) c.args._start c.args.path.now.items c.args.visit c.requires.path in
+    let h : c.args.visit.bind < length c.args.binds.now = bind_inside c.args.binds.now c.args.visit.unknown c.args.visit.bind b in
+    search rules
+
+pub bounds-binds-visit : goal.bounds-binds-visit
+bounds-binds-visit c =
+    let (a, b, d) = visits_top c.args.binds.now (length c.args.marks.now) c.args._start c.args.path.now.items c.args.visit c.requires.path in
+    bind_inside c.args.binds.now c.args.visit.unknown c.args.visit.bind b
+
+pub leave-requires-clause-inside : goal.leave-requires-clause-inside
+leave-requires-clause-inside c =
+    let (a, b, d) = visits_top c.args.binds.now (length c.args.marks.now) c.args._start c.args.path.now.items c.args.visit c.requires.path in a
+
+pub leave-requires-clause-bound : goal.leave-requires-clause-bound
+leave-requires-clause-bound c =
+    top_bound c.args.binds.now (length c.args.marks.now) c.args._start c.args.path.now.items c.args.visit c.index-binds-visit.result _ c.requires.path c.index-binds-visit.is (ap (λ (x : Bind). x.value) (sym c.index-binds-visit.is))
+
+pub returns-in-Free-clause-path : goal.returns-in-Free-clause-path
+returns-in-Free-clause-path c = visits_rest c.args.binds.now (length c.args.marks.now) c.args._start c.args.path.now.items c.args.visit c.requires.path
+
+pub returns-in-Free-clause-free : goal.returns-in-Free-clause-free
+returns-in-Free-clause-free c e =
+    step_free c.args.binds.now c.args.limit.now (length c.args.marks.now) c.args._start c.args.marks.now c.args.bulks.now c.args.types.now c.args.path.now.items c.args.visit _ refl c.requires.known c.requires.path
+    (top_bound c.args.binds.now (length c.args.marks.now) c.args._start c.args.path.now.items c.args.visit c.index-binds-visit.result _ c.requires.path c.index-binds-visit.is (ap (λ (x : Bind). x.value) (sym c.index-binds-visit.is))) c.in-Free.ensures
+
+pub returns-in_ok-push-in-Next-2-clause-path : goal.returns-in_ok-push-in-Next-2-clause-path
+returns-in_ok-push-in-Next-2-clause-path c =
+    step_down c.args.binds.now c.args.limit.now (length c.args.marks.now) c.args._start c.args.marks.now c.args.bulks.now c.args.types.now c.args.path.now.items c.push-in-Next.new.self.items c.args.visit c.in-Next.next _ refl c.requires.known c.requires.path
+    (top_bound c.args.binds.now (length c.args.marks.now) c.args._start c.args.path.now.items c.args.visit c.index-binds-visit.result _ c.requires.path c.index-binds-visit.is (ap (λ (x : Bind). x.value) (sym c.index-binds-visit.is))) c.in-Next.ensures
+    (c.in_ok-push-in-Next-2.ensures.items ∙ ap (λ l. l ++ c.in-Next.next ∷ []) c.in_ok-push-in-Next.ensures.items)
+
+pub returns-in_ok-push-in-Next-2-clause-less : goal.returns-in_ok-push-in-Next-2-clause-less
+returns-in_ok-push-in-Next-2-clause-less c =
+    labor_down c.args.marks.now _ c.in-Next.next.unknown c.in-Next.next.bind c.args.path.now.items c.push-in-Next.new.self.items c.args.visit c.in-Next.next c.in-Next.ensures.1 c.in-Next.ensures.2 refl
+    (c.in_ok-push-in-Next-2.ensures.items ∙ ap (λ l. l ++ c.in-Next.next ∷ []) c.in_ok-push-in-Next.ensures.items)
+
+pub returns-in_ok-leave-in-Solved-clause-path : goal.returns-in_ok-leave-in-Solved-clause-path
+returns-in_ok-leave-in-Solved-clause-path c = visits_rest c.args.binds.now (length c.args.marks.now) c.args._start c.args.path.now.items c.args.visit c.requires.path
+
+pub returns-in_ok-leave-in-Solved-clause-less : goal.returns-in_ok-leave-in-Solved-clause-less
+returns-in_ok-leave-in-Solved-clause-less c =
+    labor_done c.args.marks.now c.leave.new.marks c.args.visit.unknown c.args.path.now.items c.args.visit c.in_ok-leave-in-Solved.ensures.marks

@@ -1,0 +1,9 @@
+pub mod Numbers
+pub mod Walks
+pub mod Bulks
+pub mod Solving
+pub mod Filling
+pub mod Answering
+pub mod Marked
+pub mod Mended
+pub mod Variables

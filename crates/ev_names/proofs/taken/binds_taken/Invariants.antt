@@ -1,9 +1,0 @@
-use Rattle.std.specs.List.{list_any}
-use Rattle.std.proofs.Common.{◌≡◌, drop}
-use Rattle.ev_annotate.specs.Annotates.{is_formula_name, names_of}
-use Rattle.ev_annotate.specs.Resolve.{known_of}
-use Rattle.ev_names.proofs.taken.binds_taken.Given as goal
-
-abbrev pub invariant-loop-binder : goal.invariant-loop-binder
-invariant-loop-binder l =
-    list_any (is_formula_name l.params (known_of l.env)) (names_of (drop l.binder-index l.binders)) ≡ list_any (is_formula_name l.params (known_of l.env)) (names_of l.binders)

@@ -1,0 +1,17 @@
+use Rattle.std.proofs.Common.{[], drop, refl, subst}
+use Rattle.std.specs.Prelude.{Some}
+use Rattle.ev_syntax.proofs.Resumes.{found_inside}
+use Rattle.ev_syntax.specs.Raw.{binary}
+use Rattle.ev_parse.specs.inner.Frames.{binary_behind}
+use Rattle.ev_parse.proofs.OperandMoves as moves
+use Rattle.ev_parse.proofs.OperandMoves.{FoundBy}
+use Rattle.ev_parse.proofs.frame_steps.after_implication.Goals as goal
+
+pub returns-clause-holds : goal.returns-clause-holds
+returns-clause-holds c = λ whole bs cs r f p h le. let t = c.args.reader.now in let at = c.args.at in (
+  binary c.args.mark f.0 r,
+  c.in_ok-piece.ensures f.0 r f.1 p,
+  moves.bare_found whole bs (binary c.args.mark f.0 r) (drop at t)
+      (found_inside whole bs [] (binary_behind c.args.mark f.0) r (drop at t) (Some (binary c.args.mark f.0 r, drop at t)) (subst (λ xs. FoundBy whole bs xs r (drop at t)) f.2 h) (λ n g. refl)),
+  le,
+)

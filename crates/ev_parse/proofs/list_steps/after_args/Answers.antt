@@ -1,0 +1,30 @@
+use Rattle.std.proofs.Common.{[], ◌∷◌, ◌++◌, ◌+◌, drop, refl, subst, sym, ◌∙◌, arith}
+use Rattle.std.specs.Prelude.{Some}
+use Rattle.ev_syntax.specs.Marks.{comma, close_paren}
+use Rattle.ev_syntax.specs.Raw.{call}
+use Rattle.ev_syntax.specs.inner.RawView.{raws}
+use Rattle.ev_syntax.specs.inner.TypeParser.{expect}
+use Rattle.ev_syntax.specs.inner.Resuming.{Reach}
+use Rattle.ev_parse.specs.inner.Frames.{tail, args_behind}
+use Rattle.ev_syntax.proofs.TypeMoves.{begins_at}
+use Rattle.ev_parse.proofs.ListMoves.{End}
+use Rattle.ev_parse.proofs.ListMoves as moves
+use Rattle.ev_parse.proofs.list_steps.after_args.Goals as goal
+
+pub returns-then-is_mark-clause-holds : goal.returns-then-is_mark-clause-holds
+returns-then-is_mark-clause-holds c = λ whole bs cs r f p h le. let t = c.args.reader.now in let at = c.args.at in
+    let end : End = λ es us. expect close_paren us (λ rest. Some (call c.args.name es, rest)) in (
+      tail c.args.k ++ args_behind c.args.name (f.0 ++ r ∷ []) ∷ [],
+      (f.0 ++ r ∷ [], c.in_ok-args.ensures f.0 r f.1 p, refl),
+      (
+        moves.further end whole bs (tail c.args.k) f.0 r (drop at t) (drop (at + 1) t) (begins_at comma t at (sym c.is_mark.ensures.is ∙ c.if-is_mark.true)) (subst (λ xs. Reach whole (bs ++ xs) (Some (r, drop at t))) f.2 h),
+        (let w = (c.is_mark.ensures.inside c.if-is_mark.true).0 in omega arith),
+        omega arith,
+      ),
+    )
+
+pub returns-clause-holds : goal.returns-clause-holds
+returns-clause-holds c = λ whole bs cs r f p h le. let t = c.args.reader.now in let at = c.args.at in
+    let end : End = λ es us. expect close_paren us (λ rest. Some (call c.args.name es, rest)) in
+    c.close.ensures.holds whole bs (call c.args.name (raws (f.0 ++ r ∷ []))) (c.in_ok-piece.ensures (f.0 ++ r ∷ []) (c.in_ok-args.ensures f.0 r f.1 p))
+    (moves.last end whole bs (tail c.args.k) f.0 r (drop at t) (sym c.is_mark.ensures.is ∙ c.if-is_mark.false) (subst (λ xs. Reach whole (bs ++ xs) (Some (r, drop at t))) f.2 h))

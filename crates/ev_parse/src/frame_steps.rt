@@ -1,0 +1,243 @@
+//! What the frames of the reader of formulas do with a formula that was found.
+ghost use Rattle.std.specs.Prelude.{◌≡◌, ◌≢◌, ◌<◌, ◌≤◌, ◌+◌, ◌*◌, ◌-◌, [], ◌∷◌, ◌++◌, ℕ, Bool, true, false, List, Option, Some, None, length, drop, nat_lt, nat_le, ◌&&◌, IfOk};
+ghost use Rattle.ev_syntax.specs.declared.kinds.TokenKind.TheVariants.{Mark as AMark, Name as AName};
+ghost use Rattle.ev_syntax.specs.Marks.{dot};
+ghost use Rattle.ev_parse.specs.declared.states.Stage.TheVariants.{Pred};
+ghost use Rattle.ev_syntax.specs.Raw.{Raw as RawTree, Binder as Bound, nesting};
+ghost use Rattle.ev_syntax.specs.inner.RawView.{raw_of};
+ghost use Rattle.ev_syntax.specs.inner.Finding.{Found};
+ghost use Rattle.ev_syntax.specs.inner.TypeParser.{begins, expect};
+ghost use Rattle.ev_syntax.specs.inner.Resuming.{Behind, Reach, FromCall};
+ghost use Rattle.ev_syntax.specs.inner.Seeing.{Sees, IsInside};
+ghost use Rattle.ev_syntax.specs.inner.Pieces.{IsPiece};
+ghost use Rattle.ev_syntax.specs.Parts.{is_among};
+ghost use Rattle.ev_syntax.specs.inner.FormulaParser.{words, calls};
+ghost use Rattle.ev_parse.specs.inner.Forms.{IsRaw};
+ghost use Rattle.ev_parse.specs.inner.Frames.{IsFrame, StepHolds, step_weight};
+
+use crate::expression_reader::close;
+use crate::raw_pieces::{
+    apply_piece, around_piece, binary_piece, image_piece, lambda_piece, set_piece, unary_piece,
+};
+use crate::states::{Frame, Goal, RawPiece, Stage, State, Step};
+use ev_syntax::binders::{Binder, Binders};
+use ev_syntax::mark_names::{BAR, CLOSE_BRACE, CLOSE_BRACKET, CLOSE_PAREN, MINUS_SIGN, NOT_WORD};
+use ev_syntax::pattern_states::PatternPiece;
+use ev_syntax::read_pieces::Piece;
+use ev_syntax::reader::Reader;
+use ev_terms::NoMemory;
+use std::alloc::Global;
+
+/// After a reserved word and `(`.
+pub(crate) fn after_word(
+    reader: &Reader<'_>,
+    alloc: Global,
+    limit: u32,
+    mark: u16,
+    k: u8,
+    piece: RawPiece,
+    at: usize,
+) -> Result<Step, NoMemory>
+    ensures holds { (whole : ℕ → Option (Found RawTree)) → (bs : List (Behind RawTree)) → (cs : List (Behind RawTree)) → (r : RawTree) → IsFrame limit (Frame.Around mark k) cs → IsRaw limit piece r → Reach whole (bs ++ cs) (Some (r, drop at reader.now)) → at ≤ length reader.now → IfOk result (StepHolds limit reader.now whole bs) }
+    ensures falls { IfOk result (λ s. step_weight (length reader.now) s < 20 * (length reader.now - at) + 6) }
+{
+    let piece = around_piece(alloc, limit, mark, piece)?;
+    close(reader, limit, piece, k, at, CLOSE_PAREN)
+}
+
+/// After `{x |`.
+pub(crate) fn after_set(
+    reader: &Reader<'_>,
+    alloc: Global,
+    limit: u32,
+    binder: Piece<Binder>,
+    k: u8,
+    piece: RawPiece,
+    at: usize,
+) -> Result<Step, NoMemory>
+    ensures holds { (whole : ℕ → Option (Found RawTree)) → (bs : List (Behind RawTree)) → (cs : List (Behind RawTree)) → (r : RawTree) → IsFrame limit (Frame.SetBody binder k) cs → IsRaw limit piece r → Reach whole (bs ++ cs) (Some (r, drop at reader.now)) → at ≤ length reader.now → IfOk result (StepHolds limit reader.now whole bs) }
+    ensures falls { IfOk result (λ s. step_weight (length reader.now) s < 20 * (length reader.now - at) + 6) }
+{
+    let piece = set_piece(alloc, limit, binder, piece)?;
+    close(reader, limit, piece, k, at, CLOSE_BRACE)
+}
+
+/// After `E(`.
+pub(crate) fn after_argument(
+    reader: &Reader<'_>,
+    alloc: Global,
+    limit: u32,
+    function: RawPiece,
+    k: u8,
+    piece: RawPiece,
+    at: usize,
+) -> Result<Step, NoMemory>
+    ensures holds { (whole : ℕ → Option (Found RawTree)) → (bs : List (Behind RawTree)) → (cs : List (Behind RawTree)) → (r : RawTree) → IsFrame limit (Frame.Argument function k) cs → IsRaw limit piece r → Reach whole (bs ++ cs) (Some (r, drop at reader.now)) → at ≤ length reader.now → IfOk result (StepHolds limit reader.now whole bs) }
+    ensures falls { IfOk result (λ s. step_weight (length reader.now) s < 20 * (length reader.now - at) + 6) }
+{
+    if !reader.is_mark(at, CLOSE_PAREN) {
+        return Ok(Step::Go(State::Fail));
+    }
+    let piece = apply_piece(alloc, limit, function, piece)?;
+    Ok(Step::Go(State::Primary(piece, at + 1, k)))
+}
+
+/// After `E[`.
+pub(crate) fn after_image(
+    reader: &Reader<'_>,
+    alloc: Global,
+    limit: u32,
+    relation: RawPiece,
+    k: u8,
+    piece: RawPiece,
+    at: usize,
+) -> Result<Step, NoMemory>
+    ensures holds { (whole : ℕ → Option (Found RawTree)) → (bs : List (Behind RawTree)) → (cs : List (Behind RawTree)) → (r : RawTree) → IsFrame limit (Frame.Image relation k) cs → IsRaw limit piece r → Reach whole (bs ++ cs) (Some (r, drop at reader.now)) → at ≤ length reader.now → IfOk result (StepHolds limit reader.now whole bs) }
+    ensures falls { IfOk result (λ s. step_weight (length reader.now) s < 20 * (length reader.now - at) + 6) }
+{
+    if !reader.is_mark(at, CLOSE_BRACKET) {
+        return Ok(Step::Go(State::Fail));
+    }
+    let piece = image_piece(alloc, limit, relation, piece)?;
+    Ok(Step::Go(State::Primary(piece, at + 1, k)))
+}
+
+/// After `-`.
+pub(crate) fn after_minus(
+    reader: &Reader<'_>,
+    alloc: Global,
+    limit: u32,
+    k: u8,
+    piece: RawPiece,
+    at: usize,
+) -> Result<Step, NoMemory>
+    ensures holds { (whole : ℕ → Option (Found RawTree)) → (bs : List (Behind RawTree)) → (cs : List (Behind RawTree)) → (r : RawTree) → IsFrame limit (Frame.Minus k) cs → IsRaw limit piece r → Reach whole (bs ++ cs) (Some (r, drop at reader.now)) → at ≤ length reader.now → IfOk result (StepHolds limit reader.now whole bs) }
+    ensures falls { IfOk result (λ s. step_weight (length reader.now) s < 20 * (length reader.now - at) + 6) }
+{
+    let piece = unary_piece(alloc, limit, MINUS_SIGN, piece)?;
+    Ok(Step::Go(State::Operand(piece, at, 7, k)))
+}
+
+/// After `%p .`.
+pub(crate) fn after_lambda(
+    reader: &Reader<'_>,
+    limit: u32,
+    pattern: PatternPiece,
+    piece: RawPiece,
+    at: usize,
+) -> Result<Step, NoMemory>
+    ensures holds { (whole : ℕ → Option (Found RawTree)) → (bs : List (Behind RawTree)) → (cs : List (Behind RawTree)) → (r : RawTree) → IsFrame limit (Frame.LambdaBody pattern) cs → IsRaw limit piece r → Reach whole (bs ++ cs) (Some (r, drop at reader.now)) → at ≤ length reader.now → IfOk result (StepHolds limit reader.now whole bs) }
+    ensures falls { IfOk result (λ s. step_weight (length reader.now) s < 20 * (length reader.now - at) + 6) }
+{
+    if reader.is_mark(at, BAR) {
+        let inner = State::Call(Goal::Level(0), at + 1);
+        return Ok(Step::Push(Frame::LambdaValue(pattern, piece), inner));
+    }
+    Ok(Step::Go(State::Fail))
+}
+
+/// After `%p . P |`.
+pub(crate) fn after_value(
+    reader: &Reader<'_>,
+    alloc: Global,
+    limit: u32,
+    pattern: PatternPiece,
+    body: RawPiece,
+    piece: RawPiece,
+    at: usize,
+) -> Result<Step, NoMemory>
+    ensures holds { (whole : ℕ → Option (Found RawTree)) → (bs : List (Behind RawTree)) → (cs : List (Behind RawTree)) → (r : RawTree) → IsFrame limit (Frame.LambdaValue pattern body) cs → IsRaw limit piece r → Reach whole (bs ++ cs) (Some (r, drop at reader.now)) → at ≤ length reader.now → IfOk result (StepHolds limit reader.now whole bs) }
+    ensures falls { IfOk result (λ s. step_weight (length reader.now) s < 20 * (length reader.now - at) + 6) }
+{
+    let piece = lambda_piece(alloc, limit, pattern, body, piece)?;
+    Ok(Step::Go(State::Found(piece, at)))
+}
+
+/// After `{xs .`, `UNION xs .` or `INTER xs .`.
+pub(crate) fn after_dot(
+    reader: &Reader<'_>,
+    limit: u32,
+    mark: u16,
+    binders: Piece<Binders>,
+    k: u8,
+    piece: RawPiece,
+    at: usize,
+) -> Result<Step, NoMemory>
+    ensures holds { (whole : ℕ → Option (Found RawTree)) → (bs : List (Behind RawTree)) → (cs : List (Behind RawTree)) → (r : RawTree) → IsFrame limit (Frame.Body mark binders k) cs → IsRaw limit piece r → Reach whole (bs ++ cs) (Some (r, drop at reader.now)) → at ≤ length reader.now → IfOk result (StepHolds limit reader.now whole bs) }
+    ensures falls { IfOk result (λ s. step_weight (length reader.now) s < 20 * (length reader.now - at) + 6) }
+{
+    if reader.is_mark(at, BAR) {
+        let inner = State::Call(Goal::Level(0), at + 1);
+        return Ok(Step::Push(Frame::Value(mark, binders, piece, k), inner));
+    }
+    Ok(Step::Go(State::Fail))
+}
+
+/// After `not`.
+pub(crate) fn after_not(
+    reader: &Reader<'_>,
+    alloc: Global,
+    limit: u32,
+    stage: Stage,
+    piece: RawPiece,
+    at: usize,
+) -> Result<Step, NoMemory>
+    ensures holds { (whole : ℕ → Option (Found RawTree)) → (bs : List (Behind RawTree)) → (cs : List (Behind RawTree)) → (r : RawTree) → IsFrame limit (Frame.Not stage) cs → IsRaw limit piece r → Reach whole (bs ++ cs) (Some (r, drop at reader.now)) → at ≤ length reader.now → IfOk result (StepHolds limit reader.now whole bs) }
+    ensures falls { IfOk result (λ s. step_weight (length reader.now) s < 20 * (length reader.now - at) + 6) }
+{
+    let piece = unary_piece(alloc, limit, NOT_WORD, piece)?;
+    Ok(Step::Go(State::Literal(piece, at, stage)))
+}
+
+/// After an expression and the sign of a relation.
+pub(crate) fn after_relation(
+    reader: &Reader<'_>,
+    alloc: Global,
+    limit: u32,
+    mark: u16,
+    left: RawPiece,
+    stage: Stage,
+    piece: RawPiece,
+    at: usize,
+) -> Result<Step, NoMemory>
+    ensures holds { (whole : ℕ → Option (Found RawTree)) → (bs : List (Behind RawTree)) → (cs : List (Behind RawTree)) → (r : RawTree) → IsFrame limit (Frame.Relation mark left stage) cs → IsRaw limit piece r → Reach whole (bs ++ cs) (Some (r, drop at reader.now)) → at ≤ length reader.now → IfOk result (StepHolds limit reader.now whole bs) }
+    ensures falls { IfOk result (λ s. step_weight (length reader.now) s < 20 * (length reader.now - at) + 6) }
+{
+    let piece = binary_piece(alloc, limit, mark, left, piece)?;
+    Ok(Step::Go(State::Literal(piece, at, stage)))
+}
+
+/// After a literal and `&` or `or`.
+pub(crate) fn after_connective(
+    reader: &Reader<'_>,
+    alloc: Global,
+    limit: u32,
+    mark: u16,
+    left: RawPiece,
+    stage: Stage,
+    piece: RawPiece,
+    at: usize,
+) -> Result<Step, NoMemory>
+    ensures holds { (whole : ℕ → Option (Found RawTree)) → (bs : List (Behind RawTree)) → (cs : List (Behind RawTree)) → (r : RawTree) → IsFrame limit (Frame.Connective mark left stage) cs → IsRaw limit piece r → Reach whole (bs ++ cs) (Some (r, drop at reader.now)) → at ≤ length reader.now → IfOk result (StepHolds limit reader.now whole bs) }
+    ensures falls { IfOk result (λ s. step_weight (length reader.now) s < 20 * (length reader.now - at) + 6) }
+{
+    let piece = binary_piece(alloc, limit, mark, left, piece)?;
+    Ok(Step::Go(State::Chain(mark, piece, at, stage)))
+}
+
+/// After a predicate and `=>` or `<=>`.
+pub(crate) fn after_implication(
+    reader: &Reader<'_>,
+    alloc: Global,
+    limit: u32,
+    mark: u16,
+    left: RawPiece,
+    piece: RawPiece,
+    at: usize,
+) -> Result<Step, NoMemory>
+    ensures holds { (whole : ℕ → Option (Found RawTree)) → (bs : List (Behind RawTree)) → (cs : List (Behind RawTree)) → (r : RawTree) → IsFrame limit (Frame.Implication mark left) cs → IsRaw limit piece r → Reach whole (bs ++ cs) (Some (r, drop at reader.now)) → at ≤ length reader.now → IfOk result (StepHolds limit reader.now whole bs) }
+    ensures falls { IfOk result (λ s. step_weight (length reader.now) s < 20 * (length reader.now - at) + 6) }
+{
+    let piece = binary_piece(alloc, limit, mark, left, piece)?;
+    Ok(Step::Go(State::Found(piece, at)))
+}

@@ -1,0 +1,85 @@
+//! What the frames of lists and of forms that collect values do with a formula that was found.
+ghost use Rattle.std.specs.Prelude.{◌≡◌, ◌<◌, ◌≤◌, ◌+◌, ◌*◌, ◌-◌, ◌++◌, ℕ, List, Option, Some, length, drop, IfOk};
+ghost use Rattle.ev_syntax.specs.Raw.{Raw as RawTree};
+ghost use Rattle.ev_syntax.specs.inner.Finding.{Found};
+ghost use Rattle.ev_syntax.specs.inner.Resuming.{Behind, Reach};
+ghost use Rattle.ev_parse.specs.inner.Forms.{IsRaw};
+ghost use Rattle.ev_parse.specs.inner.Frames.{IsFrame, StepHolds, step_weight};
+
+use crate::expression_reader::close;
+use crate::raw_pieces::{args_with, call_piece, collected_piece, members_piece, members_with};
+use crate::states::{Frame, Goal, RawPiece, State, Step};
+use ev_syntax::binders::Binders;
+use ev_syntax::formulas::Raws;
+use ev_syntax::mark_names::{CLOSE_BRACE, CLOSE_PAREN, COMMA, OPEN_BRACE};
+use ev_syntax::read_pieces::Piece;
+use ev_syntax::reader::Reader;
+use ev_terms::{Name, NoMemory};
+use std::alloc::Global;
+
+/// After a name, `(` and some arguments.
+pub(crate) fn after_args(
+    reader: &Reader<'_>,
+    alloc: Global,
+    limit: u32,
+    name: Name,
+    args: Piece<Raws>,
+    k: u8,
+    piece: RawPiece,
+    at: usize,
+) -> Result<Step, NoMemory>
+    ensures holds { (whole : ℕ → Option (Found RawTree)) → (bs : List (Behind RawTree)) → (cs : List (Behind RawTree)) → (r : RawTree) → IsFrame limit (Frame.Args name args k) cs → IsRaw limit piece r → Reach whole (bs ++ cs) (Some (r, drop at reader.now)) → at ≤ length reader.now → IfOk result (StepHolds limit reader.now whole bs) }
+    ensures falls { IfOk result (λ s. step_weight (length reader.now) s < 20 * (length reader.now - at) + 6) }
+{
+    let args = args_with(alloc, limit, args, piece)?;
+    if reader.is_mark(at, COMMA) {
+        let inner = State::Call(Goal::Level(0), at + 1);
+        return Ok(Step::Push(Frame::Args(name, args, k), inner));
+    }
+    let piece = call_piece(alloc, limit, name, args)?;
+    close(reader, limit, piece, k, at, CLOSE_PAREN)
+}
+
+/// After `{` and some members.
+pub(crate) fn after_members(
+    reader: &Reader<'_>,
+    alloc: Global,
+    limit: u32,
+    members: Piece<Raws>,
+    k: u8,
+    piece: RawPiece,
+    at: usize,
+) -> Result<Step, NoMemory>
+    ensures holds { (whole : ℕ → Option (Found RawTree)) → (bs : List (Behind RawTree)) → (cs : List (Behind RawTree)) → (r : RawTree) → IsFrame limit (Frame.Members members k) cs → IsRaw limit piece r → Reach whole (bs ++ cs) (Some (r, drop at reader.now)) → at ≤ length reader.now → IfOk result (StepHolds limit reader.now whole bs) }
+    ensures falls { IfOk result (λ s. step_weight (length reader.now) s < 20 * (length reader.now - at) + 6) }
+{
+    let members = members_with(alloc, limit, members, piece)?;
+    if reader.is_mark(at, COMMA) {
+        let inner = State::Call(Goal::Level(0), at + 1);
+        return Ok(Step::Push(Frame::Members(members, k), inner));
+    }
+    let piece = members_piece(alloc, limit, members)?;
+    close(reader, limit, piece, k, at, CLOSE_BRACE)
+}
+
+/// After `{xs . P |`, `UNION xs . P |` or `INTER xs . P |`.
+pub(crate) fn after_collected(
+    reader: &Reader<'_>,
+    alloc: Global,
+    limit: u32,
+    mark: u16,
+    binders: Piece<Binders>,
+    body: RawPiece,
+    k: u8,
+    piece: RawPiece,
+    at: usize,
+) -> Result<Step, NoMemory>
+    ensures holds { (whole : ℕ → Option (Found RawTree)) → (bs : List (Behind RawTree)) → (cs : List (Behind RawTree)) → (r : RawTree) → IsFrame limit (Frame.Value mark binders body k) cs → IsRaw limit piece r → Reach whole (bs ++ cs) (Some (r, drop at reader.now)) → at ≤ length reader.now → IfOk result (StepHolds limit reader.now whole bs) }
+    ensures falls { IfOk result (λ s. step_weight (length reader.now) s < 20 * (length reader.now - at) + 6) }
+{
+    let piece = collected_piece(alloc, limit, mark, binders, body, piece)?;
+    if mark == OPEN_BRACE {
+        return close(reader, limit, piece, k, at, CLOSE_BRACE);
+    }
+    Ok(Step::Go(State::Found(piece, at)))
+}

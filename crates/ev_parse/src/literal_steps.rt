@@ -1,0 +1,169 @@
+//! What further frames of the reader of formulas do with a formula that was found.
+ghost use Rattle.std.specs.Prelude.{◌≡◌, ◌≢◌, ◌<◌, ◌≤◌, ◌+◌, ◌*◌, ◌-◌, [], ◌∷◌, ◌++◌, ℕ, Bool, true, false, List, Option, Some, None, length, drop, nat_lt, nat_le, ◌&&◌, IfOk};
+ghost use Rattle.ev_syntax.specs.declared.kinds.TokenKind.TheVariants.{Mark as AMark, Name as AName};
+ghost use Rattle.ev_syntax.specs.Marks.{dot};
+ghost use Rattle.ev_parse.specs.declared.states.Stage.TheVariants.{Pred};
+ghost use Rattle.ev_syntax.specs.Raw.{Raw as RawTree, Binder as Bound, nesting};
+ghost use Rattle.ev_syntax.specs.inner.RawView.{raw_of};
+ghost use Rattle.ev_syntax.specs.inner.Finding.{Found};
+ghost use Rattle.ev_syntax.specs.inner.TypeParser.{begins, expect};
+ghost use Rattle.ev_syntax.specs.inner.Resuming.{Behind, Reach, FromCall};
+ghost use Rattle.ev_syntax.specs.inner.Seeing.{Sees, IsInside};
+ghost use Rattle.ev_syntax.specs.inner.Pieces.{IsPiece};
+ghost use Rattle.ev_syntax.specs.Parts.{is_among};
+ghost use Rattle.ev_syntax.specs.inner.FormulaParser.{words, calls};
+ghost use Rattle.ev_parse.specs.inner.Forms.{IsRaw};
+ghost use Rattle.ev_syntax.specs.inner.FormulaParser as parser;
+ghost use Rattle.ev_parse.specs.inner.Frames.{IsFrame, StepHolds, stage_tail, related_behind, step_weight};
+
+use crate::marks::is_relation;
+use crate::raw_pieces::{around_piece, binary_piece, is_name, quantified_piece};
+use crate::states::{Frame, Goal, RawPiece, Stage, State, Step};
+use ev_syntax::TokenKind;
+use ev_syntax::binders::Binders;
+use ev_syntax::mark_names::{AND_SIGN, CLOSE_PAREN, FINITE_WORD, IFF_SIGN, IMPLIES_SIGN, OR_WORD};
+use ev_syntax::read_pieces::Piece;
+use ev_syntax::reader::Reader;
+use ev_terms::NoMemory;
+use std::alloc::Global;
+
+/// Whether a connective stands at a place.
+pub fn connects(reader: &Reader<'_>, at: usize) -> bool
+    ensures { result ≡ parser.connects (drop at reader.now) }
+{
+    reader.is_mark(at, AND_SIGN)
+        || reader.is_mark(at, OR_WORD)
+        || reader.is_mark(at, IMPLIES_SIGN)
+        || reader.is_mark(at, IFF_SIGN)
+}
+
+/// After an operand and an infix sign. Those of two levels do not associate.
+pub(crate) fn after_sign(
+    reader: &Reader<'_>,
+    alloc: Global,
+    limit: u32,
+    mark: u16,
+    level: u8,
+    left: RawPiece,
+    k: u8,
+    piece: RawPiece,
+    at: usize,
+) -> Result<Step, NoMemory>
+    ensures holds { (whole : ℕ → Option (Found RawTree)) → (bs : List (Behind RawTree)) → (cs : List (Behind RawTree)) → (r : RawTree) → IsFrame limit (Frame.Right mark level left k) cs → IsRaw limit piece r → Reach whole (bs ++ cs) (Some (r, drop at reader.now)) → at ≤ length reader.now → IfOk result (StepHolds limit reader.now whole bs) }
+    ensures falls { IfOk result (λ s. step_weight (length reader.now) s < 20 * (length reader.now - at) + 6) }
+{
+    let piece = binary_piece(alloc, limit, mark, left, piece)?;
+    if level == 4 || level >= 8 {
+        return Ok(Step::Go(State::Operand(piece, at, level, k)));
+    }
+    Ok(Step::Go(State::Operand(piece, at, level + 1, k)))
+}
+
+/// After `(`, a predicate.
+pub(crate) fn after_paren(
+    reader: &Reader<'_>,
+    limit: u32,
+    stage: Stage,
+    piece: RawPiece,
+    at: usize,
+) -> Result<Step, NoMemory>
+    ensures holds { (whole : ℕ → Option (Found RawTree)) → (bs : List (Behind RawTree)) → (cs : List (Behind RawTree)) → (r : RawTree) → IsFrame limit (Frame.Inner stage) cs → IsRaw limit piece r → Reach whole (bs ++ cs) (Some (r, drop at reader.now)) → at ≤ length reader.now → IfOk result (StepHolds limit reader.now whole bs) }
+    ensures falls { IfOk result (λ s. step_weight (length reader.now) s < 20 * (length reader.now - at) + 6) }
+{
+    if reader.is_mark(at, CLOSE_PAREN) {
+        return Ok(Step::Go(State::Literal(piece, at + 1, stage)));
+    }
+    Ok(Step::Go(State::Fail))
+}
+
+/// After `finite(`.
+pub(crate) fn after_finite(
+    reader: &Reader<'_>,
+    alloc: Global,
+    limit: u32,
+    stage: Stage,
+    piece: RawPiece,
+    at: usize,
+) -> Result<Step, NoMemory>
+    ensures holds { (whole : ℕ → Option (Found RawTree)) → (bs : List (Behind RawTree)) → (cs : List (Behind RawTree)) → (r : RawTree) → IsFrame limit (Frame.Finite stage) cs → IsRaw limit piece r → Reach whole (bs ++ cs) (Some (r, drop at reader.now)) → at ≤ length reader.now → IfOk result (StepHolds limit reader.now whole bs) }
+    ensures falls { IfOk result (λ s. step_weight (length reader.now) s < 20 * (length reader.now - at) + 6) }
+{
+    if !reader.is_mark(at, CLOSE_PAREN) {
+        return Ok(Step::Go(State::Fail));
+    }
+    let piece = around_piece(alloc, limit, FINITE_WORD, piece)?;
+    Ok(Step::Go(State::Literal(piece, at + 1, stage)))
+}
+
+/// After `!xs .` or `#xs .`.
+pub(crate) fn after_quantifier(
+    reader: &Reader<'_>,
+    alloc: Global,
+    limit: u32,
+    mark: u16,
+    binders: Piece<Binders>,
+    stage: Stage,
+    piece: RawPiece,
+    at: usize,
+) -> Result<Step, NoMemory>
+    ensures holds { (whole : ℕ → Option (Found RawTree)) → (bs : List (Behind RawTree)) → (cs : List (Behind RawTree)) → (r : RawTree) → IsFrame limit (Frame.Quantified mark binders stage) cs → IsRaw limit piece r → Reach whole (bs ++ cs) (Some (r, drop at reader.now)) → at ≤ length reader.now → IfOk result (StepHolds limit reader.now whole bs) }
+    ensures falls { IfOk result (λ s. step_weight (length reader.now) s < 20 * (length reader.now - at) + 6) }
+{
+    if connects(reader, at) {
+        return Ok(Step::Go(State::Fail));
+    }
+    let piece = quantified_piece(alloc, limit, mark, binders, piece)?;
+    Ok(Step::Go(State::Literal(piece, at, stage)))
+}
+
+/// A name alone that is a predicate.
+fn named(reader: &Reader<'_>, limit: u32, stage: Stage, piece: RawPiece, at: usize) -> Step
+    ensures holds { (whole : ℕ → Option (Found RawTree)) → (bs : List (Behind RawTree)) → (r : RawTree) → IsRaw limit piece r → Reach whole (bs ++ stage_tail stage) (parser.call_only r (drop at reader.now)) → at ≤ length reader.now → StepHolds limit reader.now whole bs result }
+    ensures falls { step_weight (length reader.now) result < 20 * (length reader.now - at) + 6 }
+{
+    if is_name(&piece) {
+        Step::Go(State::Literal(piece, at, stage))
+    } else {
+        Step::Go(State::Fail)
+    }
+}
+
+/// Goes on behind an expression before a mark: with a relation, or not.
+fn related_mark(
+    reader: &Reader<'_>,
+    limit: u32,
+    stage: Stage,
+    piece: RawPiece,
+    at: usize,
+    mark: u16,
+) -> Step
+    requires inside { IsInside reader.now at }
+    requires seen { Sees (Some (AMark mark)) reader.now at }
+    ensures holds { (whole : ℕ → Option (Found RawTree)) → (bs : List (Behind RawTree)) → (r : RawTree) → IsRaw limit piece r → Reach whole (bs ++ (stage_tail stage ++ related_behind ∷ [])) (Some (r, drop at reader.now)) → at ≤ length reader.now → StepHolds limit reader.now whole bs result }
+    ensures falls { step_weight (length reader.now) result < 20 * (length reader.now - at) + 6 }
+{
+    if is_relation(mark) {
+        let inner = State::Call(Goal::Level(0), at + 1);
+        return Step::Push(Frame::Relation(mark, piece, stage), inner);
+    }
+    named(reader, limit, stage, piece, at)
+}
+
+/// Before a relation, or a name that is a predicate.
+pub(crate) fn after_expression(
+    reader: &Reader<'_>,
+    limit: u32,
+    stage: Stage,
+    piece: RawPiece,
+    at: usize,
+) -> Step
+    ensures holds { (whole : ℕ → Option (Found RawTree)) → (bs : List (Behind RawTree)) → (r : RawTree) → IsRaw limit piece r → Reach whole (bs ++ (stage_tail stage ++ related_behind ∷ [])) (Some (r, drop at reader.now)) → at ≤ length reader.now → StepHolds limit reader.now whole bs result }
+    ensures falls { step_weight (length reader.now) result < 20 * (length reader.now - at) + 6 }
+{
+    match reader.kind(at) {
+        Some(TokenKind::Mark(mark)) => related_mark(reader, limit, stage, piece, at, mark),
+        Some(TokenKind::Name) => named(reader, limit, stage, piece, at),
+        Some(TokenKind::Number(_)) => named(reader, limit, stage, piece, at),
+        None => named(reader, limit, stage, piece, at),
+    }
+}

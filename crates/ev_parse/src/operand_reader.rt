@@ -1,0 +1,137 @@
+//! The reader of expressions: what comes behind a primary and behind an operand.
+ghost use Rattle.std.specs.Prelude.{◌≡◌, ◌≢◌, ◌<◌, ◌≤◌, ◌+◌, ◌*◌, ◌-◌, [], ◌∷◌, ◌++◌, ℕ, Bool, true, false, List, Option, Some, None, length, drop, nat_lt, nat_le, ◌&&◌, IfOk};
+ghost use Rattle.ev_syntax.specs.declared.kinds.TokenKind.TheVariants.{Mark as AMark, Name as AName};
+ghost use Rattle.ev_syntax.specs.Marks.{dot};
+ghost use Rattle.ev_parse.specs.declared.states.Stage.TheVariants.{Pred};
+ghost use Rattle.ev_syntax.specs.Raw.{Raw as RawTree, Binder as Bound, nesting};
+ghost use Rattle.ev_syntax.specs.inner.RawView.{raw_of};
+ghost use Rattle.ev_syntax.specs.inner.Finding.{Found};
+ghost use Rattle.ev_syntax.specs.inner.TypeParser.{begins, expect};
+ghost use Rattle.ev_syntax.specs.inner.Resuming.{Behind, Reach, FromCall};
+ghost use Rattle.ev_syntax.specs.inner.Seeing.{Sees, IsInside};
+ghost use Rattle.ev_syntax.specs.inner.Pieces.{IsPiece};
+ghost use Rattle.ev_syntax.specs.Parts.{is_among};
+ghost use Rattle.ev_syntax.specs.inner.FormulaParser.{words, calls};
+ghost use Rattle.ev_parse.specs.inner.Forms.{IsRaw};
+ghost use Rattle.ev_parse.specs.inner.Levels.{operator_level};
+ghost use Rattle.ev_parse.specs.inner.Frames.{between, tail, level_behind, StepHolds, step_weight};
+
+use crate::marks::operator_level;
+use crate::raw_pieces::{inverse_piece, typed_piece};
+use crate::states::{Frame, Goal, RawPiece, State, Step};
+use ev_syntax::TokenKind;
+use ev_syntax::mark_names::{INVERSE_SIGN, OFTYPE_WORD, OPEN_BRACKET, OPEN_PAREN};
+use ev_syntax::reader::Reader;
+use ev_syntax::type_reader::read_type;
+use ev_terms::NoMemory;
+use std::alloc::Global;
+
+/// Goes on behind a primary: with `~`, an argument, an image, or as an operand.
+pub(crate) fn primary(
+    reader: &Reader<'_>,
+    alloc: Global,
+    limit: u32,
+    piece: RawPiece,
+    at: usize,
+    k: u8,
+) -> Result<Step, NoMemory>
+    ensures holds { (whole : ℕ → Option (Found RawTree)) → (bs : List (Behind RawTree)) → (r : RawTree) → IsRaw limit piece r → Reach whole (bs ++ tail k) (Some (r, drop at reader.now)) → at ≤ length reader.now → IfOk result (StepHolds limit reader.now whole bs) }
+    ensures falls { IfOk result (λ s. step_weight (length reader.now) s < 20 * (length reader.now - at) + 3) }
+{
+    if reader.is_mark(at, INVERSE_SIGN) {
+        let piece = inverse_piece(alloc, limit, piece)?;
+        return Ok(Step::Go(State::Primary(piece, at + 1, k)));
+    }
+    if reader.is_mark(at, OPEN_PAREN) {
+        let inner = State::Call(Goal::Level(0), at + 1);
+        return Ok(Step::Push(Frame::Argument(piece, k), inner));
+    }
+    if reader.is_mark(at, OPEN_BRACKET) {
+        let inner = State::Call(Goal::Level(0), at + 1);
+        return Ok(Step::Push(Frame::Image(piece, k), inner));
+    }
+    Ok(Step::Go(State::Operand(piece, at, 9, k)))
+}
+
+/// Whether a level is one from the second on below the first.
+fn in_range(level: u8, j: u8, k: u8) -> bool
+    ensures { result ≡ (nat_lt 0 level && (nat_le k level && nat_lt level j)) }
+{
+    level > 0 && k <= level && level < j
+}
+
+/// Reads the type behind `oftype`.
+fn typed(
+    reader: &Reader<'_>,
+    alloc: Global,
+    limit: u32,
+    piece: RawPiece,
+    at: usize,
+) -> Result<Step, NoMemory>
+    requires inside { IsInside reader.now at }
+    requires seen { Sees (Some (AMark OFTYPE_WORD)) reader.now at }
+    ensures holds { (whole : ℕ → Option (Found RawTree)) → (bs : List (Behind RawTree)) → (r : RawTree) → IsRaw limit piece r → Reach whole (bs ++ level_behind 0 ∷ []) (Some (r, drop at reader.now)) → at ≤ length reader.now → IfOk result (StepHolds limit reader.now whole bs) }
+    ensures falls { IfOk result (λ s. step_weight (length reader.now) s < 20 * (length reader.now - at) + 2) }
+{
+    match read_type(reader, alloc, limit, at + 1)? {
+        Some((written, to)) => {
+            let piece = typed_piece(alloc, limit, piece, written)?;
+            Ok(Step::Go(State::Found(piece, to)))
+        }
+        None => Ok(Step::Go(State::Fail)),
+    }
+}
+
+/// Goes on behind an operand before a mark.
+fn operand_mark(
+    reader: &Reader<'_>,
+    alloc: Global,
+    limit: u32,
+    piece: RawPiece,
+    at: usize,
+    j: u8,
+    k: u8,
+    mark: u16,
+) -> Result<Step, NoMemory>
+    requires inside { IsInside reader.now at }
+    requires seen { Sees (Some (AMark mark)) reader.now at }
+    ensures holds { (whole : ℕ → Option (Found RawTree)) → (bs : List (Behind RawTree)) → (r : RawTree) → IsRaw limit piece r → Reach whole (bs ++ between k j) (Some (r, drop at reader.now)) → at ≤ length reader.now → IfOk result (StepHolds limit reader.now whole bs) }
+    ensures falls { IfOk result (λ s. step_weight (length reader.now) s < 20 * (length reader.now - at) + 2) }
+{
+    let level = operator_level(mark);
+    if in_range(level, j, k) {
+        let inner = State::Call(Goal::Level(level + 1), at + 1);
+        return Ok(Step::Push(Frame::Right(mark, level, piece, k), inner));
+    }
+    if mark != OFTYPE_WORD {
+        return Ok(Step::Go(State::Found(piece, at)));
+    }
+    if k > 0 {
+        return Ok(Step::Go(State::Found(piece, at)));
+    }
+    if j == 0 {
+        return Ok(Step::Go(State::Found(piece, at)));
+    }
+    typed(reader, alloc, limit, piece, at)
+}
+
+/// Goes on behind an operand: with an infix sign of a level from k on below j, with `oftype`, or not.
+pub(crate) fn operand(
+    reader: &Reader<'_>,
+    alloc: Global,
+    limit: u32,
+    piece: RawPiece,
+    at: usize,
+    j: u8,
+    k: u8,
+) -> Result<Step, NoMemory>
+    ensures holds { (whole : ℕ → Option (Found RawTree)) → (bs : List (Behind RawTree)) → (r : RawTree) → IsRaw limit piece r → Reach whole (bs ++ between k j) (Some (r, drop at reader.now)) → at ≤ length reader.now → IfOk result (StepHolds limit reader.now whole bs) }
+    ensures falls { IfOk result (λ s. step_weight (length reader.now) s < 20 * (length reader.now - at) + 2) }
+{
+    match reader.kind(at) {
+        Some(TokenKind::Mark(mark)) => operand_mark(reader, alloc, limit, piece, at, j, k, mark),
+        Some(TokenKind::Name) => Ok(Step::Go(State::Found(piece, at))),
+        Some(TokenKind::Number(_)) => Ok(Step::Go(State::Found(piece, at))),
+        None => Ok(Step::Go(State::Found(piece, at))),
+    }
+}

@@ -1,6 +1,0 @@
-use Rattle.ev_raw.proofs.OneTree.{at_most_one_tree, comma_ends_formula}
-use Rattle.ev_raw.proofs.Runs.{comma_ends_run}
-use Rattle.ev_raw.proofs.laws.grammar_laws.Goals as goal
-
-pub returns : goal.returns
-returns c = record { one = at_most_one_tree; comma = comma_ends_formula; comma_run = comma_ends_run }

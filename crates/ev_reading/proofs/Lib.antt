@@ -1,3 +1,0 @@
-pub mod TypeSteps
-pub mod NameSteps
-pub mod ResolveSteps

@@ -1,0 +1,21 @@
+-- What is read takes at least one token.
+use Rattle.std.proofs.Common.{◌≡◌, ℕ, ◌≤◌, ◌<◌, ◌-◌, true, List, drop, length, length-drop, subst, arith}
+use Rattle.std.specs.Prelude.{Some}
+use Rattle.ev_syntax.specs.Tokens.{Token}
+use Rattle.ev_syntax.specs.Raw.{RawType, Pattern}
+use Rattle.ev_syntax.specs.inner.PatternParser.{parse_pattern, a_pattern}
+use Rattle.ev_syntax.proofs.WholeSound.{Holds, PatternIs, pattern_is}
+use Rattle.ev_syntax.specs.inner.Finding.{Comes}
+use Rattle.ev_syntax.specs.inner.TypeParser.{parse_type, a_type}
+use Rattle.ev_syntax.proofs.Sizes.{type_shrinks, pattern_shrinks}
+use Rattle.ev_syntax.proofs.Answers.{type_sound}
+
+further_on : (ts : List Token) (at to : ℕ) → to ≤ length ts → length (drop to ts) < length (drop at ts) → at < to
+further_on ts at to le lt = let d : length (drop to ts) ≡ length ts - to = length-drop to ts in let e : length (drop at ts) ≡ length ts - at = length-drop at ts in omega arith
+
+pub type_progress : (ts : List Token) (at to : ℕ) (r : RawType) → to ≤ length ts → Comes (λ g. parse_type g a_type (drop at ts)) (Some (r, drop to ts)) → at < to
+type_progress ts at to r le c = further_on ts at to le ((type_shrinks r).shrinks true (drop at ts) (drop to ts) (type_sound (drop at ts) (drop to ts) r c))
+
+pub pattern_progress : (ts : List Token) (at to : ℕ) (x : Pattern) → to ≤ length ts → Comes (λ g. parse_pattern g a_pattern (drop at ts)) (Some (x, drop to ts)) → at < to
+pattern_progress ts at to x le c = further_on ts at to le ((pattern_shrinks x).shrinks true (drop at ts) (drop to ts)
+    (subst (λ o. Holds (PatternIs true (drop at ts)) o) (c.1 c.0 (omega arith)) (pattern_is c.0 (drop at ts))))

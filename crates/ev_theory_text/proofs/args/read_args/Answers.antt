@@ -1,0 +1,9 @@
+use Rattle.std.proofs.lemmas.Result.{IfOk-weaker}
+use Rattle.ev_syntax.specs.Marks.{comma}
+use Rattle.ev_syntax.specs.inner.TypeParser.{begins}
+use Rattle.ev_theory_text.proofs.Listing.{separated_took}
+use Rattle.ev_theory_text.proofs.Ending.{args_ties}
+use Rattle.ev_theory_text.proofs.args.read_args.Goals as goal
+
+pub returns : goal.returns
+returns c = IfOk-weaker c.further_args.result _ _ (λ v h. separated_took comma (begins comma) args_ties c.in_ok-arg.ensures c.in_ok-first.ensures h) c.further_args.ensures

@@ -1,0 +1,15 @@
+use Rattle.ev_syntax.specs.Marks.{comma}
+use Rattle.ev_syntax.specs.Tokens.{mark}
+use Rattle.ev_syntax.specs.Grammar.{Is, ◌then◌}
+use Rattle.ev_theory_text.specs.Elements.{Word}
+use Rattle.ev_theory_text.specs.inner.Taking.{never}
+use Rattle.ev_theory_text.specs.inner.Taking.{NotBefore}
+use Rattle.ev_theory_text.proofs.Takings.{left}
+use Rattle.ev_theory_text.proofs.Listing.{Listed}
+use Rattle.ev_theory_text.proofs.names.further_names.Given as goal
+
+abbrev pub invariant-further : goal.invariant-further
+invariant-further l = Listed (λ a. Is (mark comma) then Word a) (NotBefore comma) never l.fn.first l.fn.cursor l.names l.cursor
+
+abbrev pub decreases-further : goal.decreases-further
+decreases-further l = left l.cursor
