@@ -18,9 +18,9 @@ EndsExactly left n = IfSome left (λ bytes. (n ≡ 0) ↔ (bytes ≡ []))
 abbrev pub ConsumesAll : Option (List ℕ) → Option (List ℕ) → List ℕ → Type 0
 ConsumesAll old new all = IfSome old (λ bytes. (all ≡ bytes) × (new ≡ Some []))
 
--- known bytes lose some front
-abbrev pub ConsumesFront : Option (List ℕ) → Option (List ℕ) → Type 0
-ConsumesFront old new = (front : List ℕ) × Consumes old new front
+-- known bytes lose a front of such a length
+abbrev pub ConsumesFront : Option (List ℕ) → Option (List ℕ) → (ℕ → Type 0) → Type 0
+ConsumesFront old new Fits = (front : List ℕ) × Consumes old new front × Fits (length front)
 
 -- known bytes grow by a front of these that is not all of them
 abbrev pub AppendsFront : Option (List ℕ) → Option (List ℕ) → List ℕ → Type 0

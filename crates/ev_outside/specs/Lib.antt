@@ -1,3 +1,3 @@
-pub mod Calls
 pub mod Ends
-pub mod Memory
+pub mod Reading
+pub mod inner

@@ -7,6 +7,7 @@ pub mod memory;
 mod numbered;
 pub mod reading;
 pub mod standard;
+mod store;
 pub mod writing;
 
 pub use counting::Steps;
@@ -14,6 +15,3 @@ pub use memory::{MemSink, MemSource, SureSink, SureSource};
 pub use reading::{Failed, ReadFault, Source, read_all};
 pub use standard::{StdSink, StdSource};
 pub use writing::{Sink, SinkStop, write_all};
-
-#[cfg(test)]
-mod tests;

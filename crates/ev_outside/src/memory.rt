@@ -3,6 +3,7 @@ ghost use Rattle.ev_outside.specs.Ends.{Rose};
 
 use crate::numbered::{Calls, copy_piece};
 use crate::reading::{Failed, Source};
+use crate::store::Store;
 use crate::writing::{Sink, SinkStop};
 use std::alloc::Global;
 
@@ -15,7 +16,7 @@ pub struct SureSource {
 }
 
 impl SureSource {
-    ghost use Rattle.ev_outside.specs.Memory.{sure_left};
+    ghost use Rattle.ev_outside.specs.inner.Memory.{sure_left};
 
     pub fn new(bytes: Vec<u8>) -> SureSource
         ensures { sure_left result ≡ bytes.items }
@@ -26,7 +27,7 @@ impl SureSource {
 
 impl Source for SureSource {
     ghost use Rattle.std.specs.Prelude.{Some};
-    ghost use Rattle.ev_outside.specs.Memory.{sure_left};
+    ghost use Rattle.ev_outside.specs.inner.Memory.{sure_left};
 
     ghost left = { λ s. Some (sure_left s) };
 
@@ -48,17 +49,18 @@ impl Source for SureSource {
 /// Memory that takes each piece whole. Its writes never fail, but memory may run out.
 #[derive(Debug, Drop)]
 pub struct SureSink {
-    bytes: Vec<u8>,
+    store: Store,
 }
 
 impl SureSink {
-    ghost use Rattle.ev_outside.specs.Memory.{sure_written};
+    ghost use Rattle.ev_outside.specs.inner.Memory.{sure_written};
 
     pub fn new(alloc: Global) -> SureSink
-        ensures { sure_written result ≡ [] }
+        ensures written { sure_written result ≡ [] }
+        ensures shortages { result.store.shortages ≡ 0 }
     {
         SureSink {
-            bytes: Vec::new(alloc),
+            store: Store::new(alloc),
         }
     }
 
@@ -66,25 +68,29 @@ impl SureSink {
     pub fn bytes(&self) -> &[u8]
         ensures { result.now ≡ sure_written self.now }
     {
-        self.bytes.as_slice()
+        self.store.bytes.as_slice()
     }
 }
 
 impl Sink for SureSink {
     ghost use Rattle.std.specs.Prelude.{Some};
-    ghost use Rattle.ev_outside.specs.Memory.{sure_written};
+    ghost use Rattle.ev_outside.specs.inner.Memory.{sure_written};
 
     ghost written = { λ s. Some (sure_written s) };
 
     ghost faults = { λ _. 0 };
+
+    ghost shortages = { λ s. s.store.shortages };
 
     fn write(&mut self, piece: &[u8]) -> Result<usize, SinkStop>
         ensures whole { IfOk result (λ n. n ≡ length piece.now) }
         ensures stop { IfErr result (λ e. e ≡ SinkStop.NoMemory) }
         ensures appended { OnOk result (sure_written self.new ≡ sure_written self.old ++ piece.now) }
         ensures kept { OnErr result (sure_written self.new ≡ sure_written self.old) }
+        ensures short { OnErr result (Rose self.old.store.shortages self.new.store.shortages) }
+        ensures short_count { self.old.store.shortages ≤ self.new.store.shortages }
     {
-        self.bytes.extend_from_slice(piece)?;
+        self.store.append(piece)?;
         Ok(piece.len())
     }
 }
@@ -101,7 +107,7 @@ pub struct MemSource {
 }
 
 impl MemSource {
-    ghost use Rattle.ev_outside.specs.Memory.{source_left};
+    ghost use Rattle.ev_outside.specs.inner.Memory.{source_left};
 
     /// At most `piece` bytes come per read, and the reads with the numbers `failing` fail.
     pub fn new(bytes: Vec<u8>, piece: usize, failing: Vec<u64>) -> MemSource
@@ -121,8 +127,8 @@ impl MemSource {
 
 impl Source for MemSource {
     ghost use Rattle.std.specs.Prelude.{Some};
-    ghost use Rattle.ev_outside.specs.Calls.{after_call, next_fails};
-    ghost use Rattle.ev_outside.specs.Memory.{source_left};
+    ghost use Rattle.ev_outside.specs.inner.Calls.{after_call, next_fails};
+    ghost use Rattle.ev_outside.specs.inner.Memory.{source_left};
 
     ghost left = { λ s. Some (source_left s) };
 
@@ -155,24 +161,25 @@ impl Source for MemSource {
 /// Memory that takes at most so many bytes of a piece. Its writes are numbered from 1, and those whose number stands in a list fail.
 #[derive(Debug, Drop)]
 pub struct MemSink {
-    bytes: Vec<u8>,
+    store: Store,
     piece: usize,
     calls: Calls,
     ghost some: { 0 < piece },
 }
 
 impl MemSink {
-    ghost use Rattle.ev_outside.specs.Memory.{sink_written};
+    ghost use Rattle.ev_outside.specs.inner.Memory.{sink_written};
 
     /// At most `piece` bytes are taken per write, and the writes with the numbers `failing` fail.
     pub fn new(alloc: Global, piece: usize, failing: Vec<u64>) -> MemSink
         requires { 0 < piece }
         ensures written { sink_written result ≡ [] }
+        ensures shortages { result.store.shortages ≡ 0 }
         ensures piece { result.piece ≡ piece }
         ensures calls { result.calls ≡ record { failing = failing; made = 0; faults = 0 } }
     {
         MemSink {
-            bytes: Vec::new(alloc),
+            store: Store::new(alloc),
             piece,
             calls: Calls::new(failing),
         }
@@ -182,25 +189,30 @@ impl MemSink {
     pub fn bytes(&self) -> &[u8]
         ensures { result.now ≡ sink_written self.now }
     {
-        self.bytes.as_slice()
+        self.store.bytes.as_slice()
     }
 }
 
 impl Sink for MemSink {
     ghost use Rattle.std.specs.Prelude.{Some};
-    ghost use Rattle.ev_outside.specs.Calls.{after_call, next_fails};
-    ghost use Rattle.ev_outside.specs.Memory.{sink_written};
+    ghost use Rattle.ev_outside.specs.inner.Calls.{after_call, next_fails};
+    ghost use Rattle.ev_outside.specs.inner.Memory.{sink_written};
 
     ghost written = { λ s. Some (sink_written s) };
 
     ghost faults = { λ s. s.calls.faults };
+
+    ghost shortages = { λ s. s.store.shortages };
 
     fn write(&mut self, piece: &[u8]) -> Result<usize, SinkStop>
         ensures fails { IsErrOf result SinkStop.Failed ↔ IsTrue (next_fails self.old.calls) }
         ensures calls { self.new.calls ≡ after_call self.old.calls }
         ensures failed { IsErrOf result SinkStop.Failed →
             Rose self.old.calls.faults self.new.calls.faults }
+        ensures short { IsErrOf result SinkStop.NoMemory →
+            Rose self.old.store.shortages self.new.store.shortages }
         ensures count { self.old.calls.faults ≤ self.new.calls.faults }
+        ensures short_count { self.old.store.shortages ≤ self.new.store.shortages }
         ensures piece { IfOk result (λ n. n ≡ min self.old.piece (length piece.now)) }
         ensures appended { IfOk result (λ n.
             sink_written self.new ≡ sink_written self.old ++ take n piece.now) }
@@ -211,7 +223,7 @@ impl Sink for MemSink {
             return Err(SinkStop::Failed);
         }
         let n = self.piece.min(piece.len());
-        self.bytes.extend_from_slice(&piece[..n])?;
+        self.store.append(&piece[..n])?;
         Ok(n)
     }
 }

@@ -9,7 +9,7 @@ pub struct Calls {
 }
 
 impl Calls {
-    ghost use Rattle.ev_outside.specs.Calls.{after_call, next_fails};
+    ghost use Rattle.ev_outside.specs.inner.Calls.{after_call, next_fails};
 
     /// No calls yet.
     pub fn new(failing: Vec<u64>) -> Calls

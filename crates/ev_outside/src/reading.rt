@@ -1,6 +1,7 @@
-ghost use Rattle.std.specs.Prelude.{◌≡◌, ◌<◌, ◌≤◌, ℕ, List, Option, length, take, vec_len, IfOk, IfSome, OnErr, IsErrOf};
+ghost use Rattle.std.specs.Prelude.{◌≡◌, ◌<◌, ◌≤◌, ℕ, List, Option, length, take, vec_len, IfOk, IfErr, IfSome, OnErr, IsErrOf};
 ghost use Rattle.std.specs.Io.KnownBytes.{Consumes, Keeps};
 ghost use Rattle.ev_outside.specs.Ends.{ConsumesAll, ConsumesFront, EndsExactly, Rose};
+ghost use Rattle.ev_outside.specs.Reading.{IsTaken};
 
 use ev_terms::{Bytes, NoMemory};
 use std::alloc::{AllocError, Global};
@@ -77,15 +78,15 @@ pub trait Source {
         ensures count { faults self.old ≤ faults self.new };
 }
 
-/// Reads a source to its end, where at most `limit` bytes come. After an `Err` some of them may have been taken. It reads on only
-/// while at most `limit` bytes have come.
+/// Reads a source to its end, where at most `limit` bytes come. It reads on only while at most `limit` bytes have come, so a source that
+/// goes on without end is left after one read past the limit. Memory is for the bytes that are kept: no source refuses it.
 pub fn read_all<S: Source>(alloc: Global, source: &mut S, limit: u64) -> Result<Bytes, ReadFault>
     ensures all { IfOk result (λ bytes. ConsumesAll (S.left source.old) (S.left source.new) bytes) }
     ensures within { IfOk result (λ bytes. length bytes ≤ limit) }
     ensures too_long { IsErrOf result ReadFault.TooLong → IfSome (S.left source.old) (λ left. limit < length left) }
     ensures failed { IsErrOf result ReadFault.Failed → Rose (S.faults source.old) (S.faults source.new) }
     ensures count { S.faults source.old ≤ S.faults source.new }
-    ensures rest { OnErr result (ConsumesFront (S.left source.old) (S.left source.new)) }
+    ensures taken { IfErr result (λ e. ConsumesFront (S.left source.old) (S.left source.new) (IsTaken e limit)) }
 {
     let mut buf = zeros(alloc, PIECE)?;
     let mut bytes = Vec::new(alloc);

@@ -67,6 +67,8 @@ impl Sink for StdSink {
 
     ghost faults = { λ s. s.faults };
 
+    ghost shortages = { λ _. 0 };
+
     fn write(&mut self, piece: &[u8]) -> Result<usize, SinkStop>
         ensures within { IfOk result (λ n. n ≤ length piece.now) }
         ensures some { IfOk result (λ n. n ≡ 0 → piece.now ≡ []) }

@@ -42,6 +42,9 @@ pub trait Sink {
     /// How many writes have failed. A count that is kept in 64 bits stands still at their end.
     ghost faults: { Self → ℕ };
 
+    /// How many writes were refused for want of memory. A count that is kept in 64 bits stands still at their end.
+    ghost shortages: { Self → ℕ };
+
     /// Appends a front of the piece, and answers its length, which is 0 only for an empty piece. A write that is refused appends
     /// nothing.
     fn write(&mut self, piece: &[u8]) -> Result<usize, SinkStop>
@@ -50,16 +53,21 @@ pub trait Sink {
         ensures appended { IfOk result (λ n. Appends (written self.old) (written self.new) (take n piece.now)) }
         ensures kept { OnErr result (Keeps (written self.old) (written self.new)) }
         ensures failed { IsErrOf result SinkStop.Failed → Rose (faults self.old) (faults self.new) }
-        ensures count { faults self.old ≤ faults self.new };
+        ensures short { IsErrOf result SinkStop.NoMemory → Rose (shortages self.old) (shortages self.new) }
+        ensures count { faults self.old ≤ faults self.new }
+        ensures short_count { shortages self.old ≤ shortages self.new };
 }
 
-/// Writes all of the bytes. Where a write is refused, so is this, and a front of the bytes was written.
+/// Writes all of the bytes. Where a write is refused, so is this, and a front of the bytes was written. It takes no memory of its own,
+/// so want of memory has its cause in a write.
 #[tactic(auto, using(crate::proofs::Pieces::appends_next))]
 pub fn write_all<K: Sink>(sink: &mut K, bytes: &[u8]) -> Result<(), SinkStop>
     ensures all { OnOk result (Appends (K.written sink.old) (K.written sink.new) bytes.now) }
     ensures front { OnErr result (AppendsFront (K.written sink.old) (K.written sink.new) bytes.now) }
     ensures failed { IsErrOf result SinkStop.Failed → Rose (K.faults sink.old) (K.faults sink.new) }
+    ensures short { IsErrOf result SinkStop.NoMemory → Rose (K.shortages sink.old) (K.shortages sink.new) }
     ensures count { K.faults sink.old ≤ K.faults sink.new }
+    ensures short_count { K.shortages sink.old ≤ K.shortages sink.new }
 {
     let mut at = 0;
     while at < bytes.len() {

@@ -1,5 +1,5 @@
 -- Words, and how a run ends.
-use Rattle.std.proofs.Common.{◌≡◌, ◌<◌, ◌≤◌, ◌↔◌, ◌⊎◌, inl, inr, ℕ, Bool, IsTrue, List, [], ◌∷◌, Option, get_or, length, map, refl, ap, sym, ◌∙◌, arith}
+use Rattle.std.proofs.Common.{◌≡◌, ◌<◌, ◌≤◌, ◌↔◌, ◌⊎◌, inl, inr, ℕ, Bool, IsTrue, List, [], ◌∷◌, Option, Some, None, IfSome, get_or, length, map, refl, ap, sym, ◌∙◌, arith}
 use Rattle.std.proofs.lemmas.Slice.Eq.{bytes_eq-Decides}
 use Rattle.std.specs.Prelude.{bytes_eq}
 use Rattle.theory.specs.declared.script.Script.{Script}
@@ -29,7 +29,7 @@ one_word bytes_of items seen w text word same s a b e f g =
     )
 
 -- a script that is read, where no count rose, is answered with its report
-pub complete : (words : List (List ℕ)) (bytes : List ℕ) (e : Exit) (old new : Option (List ℕ)) (s : Script) → EndsWith words bytes e old new → IsCheck words → length bytes ≤ input_limit → IsScript bytes s
+complete : (words : List (List ℕ)) (bytes : List ℕ) (e : Exit) (old new : Option (List ℕ)) (s : Script) → EndsWith words bytes e old new → IsCheck words → length bytes ≤ input_limit → IsScript bytes s
     → (e ≡ exit.SourceFault → ⊥) → (e ≡ exit.SinkFault → ⊥) → (e ≡ exit.Ok) ⊎ (e ≡ exit.NoMemory)
 complete words bytes exit.Ok old new s h c l i source sink = inl refl
 complete words bytes exit.NoMemory old new s h c l i source sink = inr refl
@@ -41,3 +41,11 @@ complete words bytes exit.Usage old new s (inl (text, a, w)) c l i source sink =
 complete words bytes exit.Usage old new s (inr (cut, h)) c l i source sink = absurd (never exit.Usage (λ p. cc) (λ p. cc) cut)
 complete words bytes exit.TooLong old new s (inl (text, a, w)) c l i source sink = absurd (omega (arith, a.1, l))
 complete words bytes exit.TooLong old new s (inr (cut, h)) c l i source sink = absurd (never exit.TooLong (λ p. cc) (λ p. cc) cut)
+
+-- the same where the source may tell its bytes
+pub complete_of : {F G : Type 0} (words : List (List ℕ)) (left : Option (List ℕ)) (e : Exit) (old new : Option (List ℕ)) → IfSome left (λ bytes. EndsWith words bytes e old new)
+    → (e ≡ exit.SourceFault → F) → (e ≡ exit.SinkFault → G)
+    → IfSome left (λ bytes. IsCheck words → length bytes ≤ input_limit → (s : Script) → IsScript bytes s → (F → ⊥) → (G → ⊥) → (e ≡ exit.Ok) ⊎ (e ≡ exit.NoMemory))
+complete_of words None e old new ends source sink = tt
+complete_of words (Some bytes) e old new ends source sink =
+    λ c l s i f g. complete words bytes e old new s ends c l i (λ h. f (source h)) (λ h. g (sink h))

@@ -8,7 +8,7 @@ use Rattle.ev_forms.specs.declared.connectives.Connective.TheVariants as connect
 use Rattle.theory.specs.declared.marks.Mark.{Mark}
 use Rattle.theory.specs.declared.marks.Mark.TheVariants.{True, False, Close}
 use Rattle.theory.specs.Formulas.{mark_of, IsChained, IsSingle, Literal, Chain, Conjunction, Predicate, is_true, is_false, is_negation, in_parens, ends, goes_on, chained, alone, is_joined}
-use Rattle.theory.specs.Parsing.{StopsBefore, EndsConjunction, EndsPredicate}
+use Rattle.theory.specs.inner.Parsing.{StopsBefore, EndsConjunction, EndsPredicate}
 
 close_is_none : (c : Connective) → mark_of c ≢ Close
 close_is_none connective.And e = cc

@@ -3,7 +3,8 @@ use Rattle.std.proofs.Common.{◌≡◌, ◌+◌, ◌<◌, ◌++◌, ℕ, Bool, 
 use Rattle.std.proofs.lemmas.List.{take_more}
 use Rattle.std.proofs.lemmas.Option.{slice_get-get_or}
 use Rattle.theory.specs.declared.script.StoredProof.{StoredProof}
-use Rattle.theory.specs.Reports.{is_for, IsIndexOf}
+use Rattle.theory.specs.Reports.{is_for}
+use Rattle.theory.specs.inner.Reports.{IsIndexOf}
 use Rattle.theory.proofs.StepLaws.{pushed}
 
 chosen : (all : List StoredProof) (old now : Option ℕ) (b : Bool) (at : ℕ) (p : StoredProof) (first : Option StoredProof) → now ≡ cond b (Some at) old → slice_get all at ≡ Some p

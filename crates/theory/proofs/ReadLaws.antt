@@ -13,7 +13,7 @@ use Rattle.theory.specs.declared.formulas.Want.{Want}
 use Rattle.theory.specs.declared.formulas.Want.TheVariants as want
 use Rattle.theory.specs.declared.formulas.Found.{Found}
 use Rattle.theory.specs.Formulas.{mark_of, IsChained, IsSingle, Literal, Chain, Conjunction, Predicate, is_true, is_false, is_negation, in_parens, ends, goes_on, chained, alone, is_joined}
-use Rattle.theory.specs.Parsing.{StopsBefore, EndsConjunction, EndsPredicate, Reads, ExtendsToConjunction, ExtendsByOne, ExtendsToPredicate, Extends, Gives}
+use Rattle.theory.specs.inner.Parsing.{StopsBefore, EndsConjunction, EndsPredicate, Reads, ExtendsToConjunction, ExtendsByOne, ExtendsToPredicate, Extends, Gives}
 use Rattle.theory.proofs.FormulaLaws.{same_connective, same_chain, ends_at_close, ends_at_single, literal_unique, chain_unique, conjunction_unique, predicate_unique}
 
 -- Depths.

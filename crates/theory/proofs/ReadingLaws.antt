@@ -10,14 +10,15 @@ use Rattle.ev_forms.specs.declared.connectives.Connective.{Connective}
 use Rattle.theory.specs.declared.marks.Mark.{Mark}
 use Rattle.theory.specs.declared.theorems.Theorem.{Theorem}
 use Rattle.theory.specs.declared.steps.Step.{Step}
-use Rattle.theory.specs.Words.{full_lines, nowhere, piece, texts}
+use Rattle.theory.specs.Words.{full_lines}
+use Rattle.theory.specs.inner.Pieces.{nowhere, piece, texts}
 use denote.Ref.{Bor}
 use Rattle.std.proofs.Math.Seq.{drop-cons}
 use Rattle.std.proofs.Math.ListN.{drop_of_length-le}
 use Rattle.std.specs.Prelude.{bytes_eq}
 use Rattle.std.specs.List.{list_any}
 use Rattle.theory.specs.Formulas.{Front, mark_of, AreMarks, IsFormula, Predicate, nesting_limit}
-use Rattle.theory.specs.Parsing.{EndsPredicate}
+use Rattle.theory.specs.inner.Parsing.{EndsPredicate}
 use Rattle.ev_terms.specs.Measures.{depth}
 use Rattle.theory.specs.Theorems.{Labelled, theorem_parts, IsTheorem, AreDifferent, AreTheorems, labels_of}
 use Rattle.theory.specs.Steps.{IsStep}

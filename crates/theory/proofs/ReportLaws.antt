@@ -19,7 +19,8 @@ use Rattle.theory.specs.declared.theorems.Theorem.{Theorem}
 use Rattle.theory.specs.declared.script.StoredProof.{StoredProof}
 use Rattle.theory.specs.declared.script.Theory.{Theory}
 use Rattle.theory.specs.Steps.{Replays}
-use Rattle.theory.specs.Reports.{closed, kept_steps, stored_steps, IsIndexOf, status_of, IsStatus, HasStatus, HasPredicates, IsJustified, IsTheoryReport, theory_line, theorem_lines}
+use Rattle.theory.specs.Reports.{closed, kept_steps, stored_steps, status_of, IsStatus, HasStatus, IsJustified, IsTheoryReport, theory_line, theorem_lines}
+use Rattle.theory.specs.inner.Reports.{IsIndexOf, HasPredicates}
 use Rattle.theory.proofs.StepLaws.{proved_derivable}
 
 -- A printed `proved` is a derivation.

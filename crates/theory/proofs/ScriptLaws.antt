@@ -9,10 +9,12 @@ use Rattle.theory.specs.declared.script.Head.{Head}
 use Rattle.theory.specs.declared.script.Head.TheVariants.{Put, Proof}
 use Rattle.theory.specs.declared.script.StoredProof.{StoredProof}
 use Rattle.theory.specs.declared.script.Theory.{Theory}
-use Rattle.theory.specs.Words.{are_blanks, full_lines, piece, texts, trimmed, words_of}
+use Rattle.theory.specs.Words.{are_blanks, full_lines, trimmed, words_of}
+use Rattle.theory.specs.inner.Pieces.{piece, texts}
 use Rattle.theory.specs.Steps.{IsStep}
 use Rattle.theory.specs.Theorems.{AreTheorems}
-use Rattle.theory.specs.Scripts.{Body, ScriptUnit, UnitFront, body_of, with_line, with_body, is_end, head_of, head_of_words, proof_head, unit_front, BlankSoFar, IsUnitAt, PutsNothing, IsProof, AreProofs, AreScript}
+use Rattle.theory.specs.Scripts.{Body, ScriptUnit, UnitFront, body_of, with_line, with_body, is_end, head_of, head_of_words, proof_head, unit_front, IsProof, AreProofs, AreScript}
+use Rattle.theory.specs.inner.Scripts.{BlankSoFar, IsUnitAt, PutsNothing}
 use Rattle.theory.specs.declared.script.Script.{Script}
 use Rattle.theory.specs.declared.theorems.Theorem.{Theorem}
 use Rattle.theory.proofs.MarkLaws.{two}

@@ -27,7 +27,8 @@ use Rattle.theory.specs.declared.script.Script.{Script}
 use Rattle.theory.specs.Words.{full_lines, lines_of}
 use Rattle.theory.specs.Theorems.{IsTheorem}
 use Rattle.theory.specs.Scripts.{AreScript, IsScript}
-use Rattle.theory.specs.Reports.{closed, HasPredicates}
+use Rattle.theory.specs.Reports.{closed}
+use Rattle.theory.specs.inner.Reports.{HasPredicates}
 
 -- a predicate without direct operators
 record IsBasePredicate (env : Env) (C : List Ty) (P : Term) : Type 0 where

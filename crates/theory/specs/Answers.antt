@@ -5,8 +5,6 @@ use Rattle.ev_outside.specs.Ends.{AppendsFront}
 use Rattle.theory.specs.declared.script.Script.{Script}
 use Rattle.theory.specs.declared.answers.Exit.{Exit}
 use Rattle.theory.specs.declared.answers.Exit.TheVariants as exit
-use Rattle.theory.specs.declared.answers.Answer.{Answer}
-use Rattle.theory.specs.declared.answers.Answer.TheVariants as answer
 use Rattle.theory.specs.Scripts.{IsScript}
 use Rattle.theory.specs.Reports.{IsReport}
 
@@ -44,29 +42,16 @@ Answers words bytes exit.SinkFault text = ⊥
 abbrev pub IsCut : Exit → Type 0
 IsCut e = (e ≡ exit.SinkFault) ⊎ (e ≡ exit.NoMemory)
 
+-- the exits that come only where the input was read to its end
+abbrev pub ReadsToEnd : Exit → Type 0
+ReadsToEnd e = (e ≡ exit.Ok) ⊎ (e ≡ exit.BadScript)
+
 -- How a run ends whose sink had written `old` and now has written `new`: with an answer, whose text was written whole, or early, with
 -- a front of an answer's text.
 abbrev pub EndsWith : List (List ℕ) → List ℕ → Exit → Option (List ℕ) → Option (List ℕ) → Type 0
 EndsWith words bytes e old new =
     ((text : List ℕ) × Answers words bytes e text × Appends old new text)
     ⊎ (IsCut e × ((full : Exit) × (text : List ℕ) × Answers words bytes full text × AppendsFront old new text))
-
--- the exit and the text of an answer before it is written
-abbrev pub exit_of : Answer → Exit
-exit_of (answer.Report text) = exit.Ok
-exit_of answer.BadScript = exit.BadScript
-exit_of answer.Usage = exit.Usage
-exit_of answer.TooLong = exit.TooLong
-exit_of answer.SourceFault = exit.SourceFault
-exit_of answer.NoMemory = exit.NoMemory
-
-abbrev pub text_of : Answer → List ℕ
-text_of (answer.Report text) = text
-text_of answer.BadScript = line (codes "bad-script 0")
-text_of answer.Usage = line (codes "usage")
-text_of answer.TooLong = line (codes "too-long")
-text_of answer.SourceFault = []
-text_of answer.NoMemory = []
 
 -- the number of an exit
 abbrev pub number_of : Exit → ℕ

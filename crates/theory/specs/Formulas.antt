@@ -2,7 +2,6 @@
 -- marks, and which marks come after it.
 use Rattle.std.specs.Prelude.{◌≡◌, ◌⊎◌, ◌≤◌, ℕ, true, List, [], ◌∷◌, Option, Some, None, bytes_eq, codes, drop, length, if◌then◌else◌, nat_eq, option_map}
 use Rattle.std.specs.List.{starts_with, take_while}
-use denote.Ref.{Bor}
 use Rattle.ev_terms.specs.Term.{Term}
 use Rattle.ev_terms.specs.Measures.{size, depth}
 use Rattle.ev_forms.specs.Forms.{truth, falsity, neg}
@@ -16,10 +15,6 @@ use Rattle.theory.specs.Words.{are_blanks, begins_word, is_word_char, skip_blank
 -- a mark, and the text behind it
 abbrev pub Front : Type 0
 Front = Mark × List ℕ
-
--- the same where the text lies in memory
-abbrev pub front_of : Mark × Bor (List ℕ) → Front
-front_of p = (p.0, p.1.now)
 
 abbrev pub word_mark : List ℕ → Option Mark
 word_mark word =

@@ -1,8 +1,8 @@
 pub mod Words
 pub mod Formulas
-pub mod Parsing
 pub mod Theorems
 pub mod Steps
 pub mod Scripts
 pub mod Reports
 pub mod Answers
+pub mod inner

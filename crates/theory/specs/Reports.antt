@@ -1,10 +1,9 @@
 -- The status of a theorem, and the report of a script. Every line ends with one LF, the byte 10.
-use Rattle.std.specs.Prelude.{⊤, ◌≡◌, ◌++◌, ◌&&◌, ◌==◌, ℕ, Bool, List, [], ◌∷◌, Option, Some, None, bytes_eq, codes, decimal, find, if◌then◌else◌, length, option_and_then, reverse, slice_get}
-use Rattle.std.specs.List.{AllByRecursion, AllZip}
+use Rattle.std.specs.Prelude.{◌≡◌, ◌++◌, ◌&&◌, ◌==◌, ℕ, Bool, List, [], ◌∷◌, Option, Some, None, bytes_eq, codes, decimal, find, if◌then◌else◌, length, reverse}
+use Rattle.std.specs.List.{AllZip}
 use Rattle.ev_terms.specs.declared.types.Tys.{Empty}
 use Rattle.ev_terms.specs.Term.{Term}
 use Rattle.ev_typing.specs.declared.typing.Sequent.{Sequent}
-use Rattle.ev_typing.specs.BaseSequents.{IsBaseSequent}
 use Rattle.ev_kernel.specs.Derivable.{Derivable}
 use Rattle.theory.specs.declared.steps.Step.{Step}
 use Rattle.theory.specs.declared.steps.Outcome.{Outcome}
@@ -49,11 +48,6 @@ IsStatus (Some steps) P st = (o : Outcome) × Replays [] (closed P) steps o × (
 abbrev pub HasStatus : List StoredProof → List ℕ → Theorem → Status → Type 0
 HasStatus proofs theory t st = IsStatus (stored_steps proofs theory t.label) t.goal st
 
--- the formulas of a theory are predicates, over the environment that declares nothing
-abbrev pub HasPredicates : Option Theory → Type 0
-HasPredicates None = ⊤
-HasPredicates (Some t) = AllByRecursion (λ (th : Theorem). IsBaseSequent [] (closed th.goal)) t.theorems
-
 -- a theorem that is proved is derivable by the base rules, in the environment that declares nothing
 abbrev pub IsJustified : Theorem → Status → Type 0
 IsJustified t st = st ≡ Proved → Derivable [] (closed t.goal)
@@ -95,8 +89,3 @@ pub record IsReport (bytes text : List ℕ) : Type 0 where
   pub script : Script
   pub is : IsScript bytes script
   pub report : IsReportOf script.theory script.proofs text
-
--- where a label's proof stands among some proofs: a look-up that gives the place of the last one for the theory's theorem of that label
-abbrev pub IsIndexOf : List ℕ → List StoredProof → List StoredProof → (List ℕ → Option ℕ) → Type 0
-IsIndexOf theory first all place =
-    (label : List ℕ) → option_and_then (slice_get all) (place label) ≡ find (is_for theory label) (reverse first)

@@ -1,13 +1,12 @@
 -- A script: at most one theory text, and then proofs.
-use Rattle.std.specs.Prelude.{◌≡◌, ◌≢◌, ◌+◌, ◌<◌, ◌≤◌, drop, length, slice_range, ◌&&◌, ◌==◌, ℕ, Bool, true, List, [], ◌∷◌, Option, Some, None, bytes_eq, codes, if◌then◌else◌, option_map}
+use Rattle.std.specs.Prelude.{◌≡◌, ◌&&◌, ◌==◌, ℕ, Bool, true, List, [], ◌∷◌, Option, Some, None, bytes_eq, codes, if◌then◌else◌, option_map}
 use Rattle.std.specs.List.{list_all, slice_split}
 use Rattle.theory.specs.declared.script.Head.{Head}
 use Rattle.theory.specs.declared.script.Head.TheVariants.{Put, Proof}
 use Rattle.theory.specs.declared.script.StoredProof.{StoredProof}
 use Rattle.theory.specs.declared.script.Theory.{Theory}
 use Rattle.theory.specs.declared.script.Script.{Script}
-use Rattle.theory.specs.Words.{are_blanks, drop_last_blanks, is_name, lines_of, texts, trimmed, words_of}
-use denote.Ref.{Bor}
+use Rattle.theory.specs.Words.{are_blanks, drop_last_blanks, is_name, lines_of, trimmed, words_of}
 use Rattle.theory.specs.Theorems.{AreTheorems}
 use Rattle.theory.specs.Steps.{AreSteps}
 
@@ -85,20 +84,3 @@ AreScript lines (Some t) ps = (u : ScriptUnit) × (after : List (List ℕ)) × (
 -- the bytes are the script
 abbrev pub IsScript : List ℕ → Script → Type 0
 IsScript bytes s = AreScript (lines_of bytes) s.theory s.proofs
-
--- The first i lines, which lie in memory, are blank: the units of all lines are those of the rest.
-pub record BlankSoFar (lines : List (Bor (List ℕ))) (i : ℕ) : Type 0 where
-  pub within : i ≤ length lines
-  pub front : unit_front (texts (drop i lines)) ≡ unit_front (texts lines)
-  pub blank : list_all are_blanks (texts lines) ≡ list_all are_blanks (texts (drop i lines))
-
--- Lines that lie in memory begin with the unit that has this head, and as its body the lines from start up to end, where the line
--- stands that ends it.
-pub record IsUnitAt (lines : List (Bor (List ℕ))) (head : Head) (start end : ℕ) : Type 0 where
-  pub ordered : start ≤ end
-  pub within : end < length lines
-  pub is : unit_front (texts lines) ≡ Some (record { head = head; body = texts (slice_range lines start end) }, texts (drop (end + 1) lines))
-
--- no unit that puts a theory begins the lines
-abbrev pub PutsNothing : List (List ℕ) → Type 0
-PutsNothing lines = (u : ScriptUnit) (after : List (List ℕ)) (name : List ℕ) → unit_front lines ≡ Some (u, after) → u.head ≢ Put name

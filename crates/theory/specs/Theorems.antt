@@ -1,7 +1,6 @@
 -- The theorems of a theory text, one a line.
 use Rattle.std.specs.Prelude.{◌≡◌, ◌&&◌, ℕ, Bool, false, not, List, [], ◌∷◌, ◌++◌, ⊤, Option, Some, None, bytes_eq, codes, drop, length, if◌then◌else◌, map, nat_eq}
 use Rattle.std.specs.List.{AllZip, list_any, starts_with, take_while}
-use denote.Ref.{Bor}
 use Rattle.theory.specs.declared.theorems.Theorem.{Theorem}
 use Rattle.theory.specs.Words.{is_blank, is_name, is_variable_name, is_word_char, skip_blanks, full_lines}
 use Rattle.theory.specs.Formulas.{IsFormula}
@@ -9,10 +8,6 @@ use Rattle.theory.specs.Formulas.{IsFormula}
 -- a label, and the text behind the colon
 abbrev pub Labelled : Type 0
 Labelled = List ℕ × List ℕ
-
--- the same where they lie in memory
-abbrev pub labelled_text : Bor (List ℕ) × Bor (List ℕ) → Labelled
-labelled_text p = (p.0.now, p.1.now)
 
 abbrev pub begins_blank : List ℕ → Bool
 begins_blank [] = false

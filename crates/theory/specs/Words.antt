@@ -1,9 +1,7 @@
 -- The characters, words and lines of a text.
-use Rattle.std.specs.Prelude.{◌&&◌, ◌||◌, ◌==◌, ℕ, Bool, false, not, List, [], ◌∷◌, bytes_eq, codes, filter, length, if◌then◌else◌, map}
+use Rattle.std.specs.Prelude.{◌&&◌, ◌||◌, ◌==◌, ℕ, Bool, false, not, List, [], ◌∷◌, bytes_eq, codes, filter, length, if◌then◌else◌}
 use Rattle.std.specs.List.{list_all, list_any, slice_split}
 use Rattle.std.specs.Char.{is_ascii_alphabetic, is_ascii_alphanumeric, is_ascii_digit}
-use denote.Ref.{Bor}
-use Rattle.std.proofs.Common.{get_or}
 
 -- space, tab, CR and LF
 abbrev pub is_blank : ℕ → Bool
@@ -71,14 +69,3 @@ words_of line = filter (λ word. not (length word == 0)) (slice_split (λ c. c =
 -- the lines that are not blank
 abbrev pub full_lines : List (List ℕ) → List (List ℕ)
 full_lines lines = filter (λ line. not (are_blanks line)) lines
-
--- what pieces of text say
-abbrev pub texts : List (Bor (List ℕ)) → List (List ℕ)
-texts pieces = map (λ piece. piece.now) pieces
-
--- a text that lies in memory, by its place
-abbrev pub nowhere : Bor (List ℕ)
-nowhere = record { ref_ptr = (0, 0); now = [] }
-
-abbrev pub piece : List (Bor (List ℕ)) → ℕ → List ℕ
-piece pieces i = (get_or pieces i nowhere).now

@@ -1,9 +1,10 @@
-ghost use Rattle.std.specs.Prelude.{◌≡◌, ◌≢◌, ◌≤◌, ◌⊎◌, IfOk, IfSome, IsTrue, ◌↔◌, length, map, string_bytes};
+ghost use Rattle.std.specs.Prelude.{◌≡◌, ◌≢◌, ◌≤◌, ◌⊎◌, [], IfOk, IfSome, IsTrue, ◌↔◌, length, map, string_bytes};
 ghost use Rattle.std.specs.Io.KnownBytes.{Appends};
 ghost use Rattle.ev_outside.specs.Ends.{AppendsFront, Rose};
 ghost use Rattle.theory.specs.declared.script.Script.{Script};
 ghost use Rattle.theory.specs.Scripts.{IsScript};
-ghost use Rattle.theory.specs.Answers.{check_words, input_limit, Answers, EndsWith, IsCheck, IsCut, exit_of, number_of, text_of};
+ghost use Rattle.theory.specs.Answers.{check_words, input_limit, Answers, EndsWith, IsCheck, IsCut, ReadsToEnd, number_of};
+ghost use Rattle.theory.specs.inner.Answers.{exit_of, text_of};
 
 use crate::script::read_script;
 use crate::texts::report;
@@ -103,6 +104,7 @@ fn report_of<L: Ledger>(
 /// What `check` answers.
 fn check<S: Source, L: Ledger>(alloc: Global, source: &mut S, counter: &mut Counter<L>) -> Answer
     ensures told { IfSome (S.left source.old) (λ bytes. Answers check_words bytes (exit_of result) (text_of result)) }
+    ensures read { ReadsToEnd (exit_of result) → IfSome (S.left source.old) (λ bytes. S.left source.new ≡ Some []) }
     ensures not_usage { result ≢ Answer.Usage }
     ensures failed { result ≡ Answer.SourceFault → Rose (S.faults source.old) (S.faults source.new) }
     ensures count { S.faults source.old ≤ S.faults source.new }
@@ -136,6 +138,8 @@ fn find_answer<S: Source, L: Ledger>(
     counter: &mut Counter<L>,
 ) -> Answer
     ensures told { IfSome (S.left source.old) (λ bytes. Answers (map string_bytes words.now.items) bytes (exit_of result) (text_of result)) }
+    ensures read { ReadsToEnd (exit_of result) → IfSome (S.left source.old) (λ bytes. S.left source.new ≡ Some []) }
+    ensures unread { (IsCheck (map string_bytes words.now.items) → ⊥) → source.new ≡ source.old }
     ensures usage { (result ≡ Answer.Usage) ↔ (IsCheck (map string_bytes words.now.items) → ⊥) }
     ensures failed { result ≡ Answer.SourceFault → Rose (S.faults source.old) (S.faults source.new) }
     ensures count { S.faults source.old ≤ S.faults source.new }
@@ -169,6 +173,8 @@ pub fn run<S: Source, K: Sink, L: Ledger>(
     steps: &mut Counter<L>,
 ) -> Exit
     ensures answer { IfSome (S.left source.old) (λ bytes. EndsWith (map string_bytes words.now.items) bytes result (K.written sink.old) (K.written sink.new)) }
+    ensures read { ReadsToEnd result → IfSome (S.left source.old) (λ bytes. S.left source.new ≡ Some []) }
+    ensures unread { (IsCheck (map string_bytes words.now.items) → ⊥) → source.new ≡ source.old }
     ensures usage { IsCheck (map string_bytes words.now.items) → result ≢ Exit.Usage }
     ensures no_words { (IsCheck (map string_bytes words.now.items) → ⊥) → (result ≡ Exit.Usage) ⊎ IsCut result }
     ensures source_fault { result ≡ Exit.SourceFault → Rose (S.faults source.old) (S.faults source.new) }

@@ -6,7 +6,7 @@ ghost use Rattle.ev_forms.specs.declared.connectives.Connective.{Connective};
 ghost use Rattle.theory.specs.declared.marks.Mark.{Mark};
 ghost use Rattle.theory.specs.declared.marks.Mark.TheVariants.{Open};
 ghost use Rattle.theory.specs.Formulas.{mark_of, IsChained, IsSingle, Chain, Literal, IsFormula};
-ghost use Rattle.theory.specs.Parsing.{StopsBefore, EndsConjunction, Reads, ExtendsToConjunction, ExtendsToPredicate, Extends, Gives};
+ghost use Rattle.theory.specs.inner.Parsing.{StopsBefore, EndsConjunction, Reads, ExtendsToConjunction, ExtendsToPredicate, Extends, Gives};
 
 use crate::marks::{Mark, marks_of};
 use ev_forms::{Connective, make_falsity, make_joined, make_negation, make_truth};

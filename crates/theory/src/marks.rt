@@ -2,7 +2,8 @@ ghost use Rattle.std.specs.Prelude.{◌≡◌, ◌<◌, List, IfNone, IfOk, IfSo
 ghost use Rattle.std.specs.List.{take_while};
 ghost use Rattle.theory.specs.Words.{is_word_char};
 ghost use Rattle.theory.specs.declared.marks.Mark.{Mark};
-ghost use Rattle.theory.specs.Formulas.{word_mark, sign_front, mark_front, front_of, AreMarks};
+ghost use Rattle.theory.specs.Formulas.{word_mark, sign_front, mark_front, AreMarks};
+ghost use Rattle.theory.specs.inner.Pieces.{front_of};
 
 use crate::words::{begins_word, is_word_char, same_text, skip_blanks};
 use ev_forms::Connective;

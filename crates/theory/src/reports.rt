@@ -3,7 +3,8 @@ ghost use Rattle.std.specs.Option.{option_copied, option_and_then};
 ghost use Rattle.std.specs.Prelude.{slice_get};
 ghost use Rattle.std.specs.List.{AllZip};
 ghost use Rattle.indexmap.specs.IndexMap.{get};
-ghost use Rattle.theory.specs.Reports.{closed, is_for, kept_steps, IsStatus, HasStatus, status_text, theory_line, theorem_line, theorem_lines, IsIndexOf, IsJustified, IsTheoryReport, IsReportOf};
+ghost use Rattle.theory.specs.Reports.{closed, is_for, kept_steps, IsStatus, HasStatus, status_text, theory_line, theorem_line, theorem_lines, IsJustified, IsTheoryReport, IsReportOf};
+ghost use Rattle.theory.specs.inner.Reports.{IsIndexOf};
 
 use crate::replay::replay;
 use crate::script::{Script, StoredProof, StoredProofs, Theory};

@@ -1,7 +1,9 @@
 ghost use Rattle.std.specs.Prelude.{◌≡◌, ◌==◌, [], ◌∷◌, ◌+◌, ◌<◌, ◌≤◌, ◌↔◌, false, true, List, None, Some, IfNone, IfOk, IfSome, IsTrue, length, take, drop, slice_range};
 ghost use Rattle.std.specs.List.{list_all, slice_split};
-ghost use Rattle.theory.specs.Words.{are_blanks, lines_of, piece, texts};
-ghost use Rattle.theory.specs.Scripts.{proof_head, head_of, head_of_words, is_end, BlankSoFar, IsUnitAt, PutsNothing, body_of, unit_front, IsProof, IsTheory, AreProofs, AreScript, IsScript};
+ghost use Rattle.theory.specs.Words.{are_blanks, lines_of};
+ghost use Rattle.theory.specs.inner.Pieces.{piece, texts};
+ghost use Rattle.theory.specs.Scripts.{proof_head, head_of, head_of_words, is_end, body_of, unit_front, IsProof, IsTheory, AreProofs, AreScript, IsScript};
+ghost use Rattle.theory.specs.inner.Scripts.{BlankSoFar, IsUnitAt, PutsNothing};
 ghost use Rattle.theory.specs.declared.script.StoredProof.{StoredProof};
 ghost use Rattle.theory.specs.declared.script.Script.{Script};
 ghost use Rattle.theory.specs.declared.script.Theory.{Theory};

@@ -1,5 +1,5 @@
 ghost use Rattle.std.specs.Prelude.{◌≡◌, List, IfNone, IfOk, IfSome};
-ghost use Rattle.theory.specs.Words.{texts};
+ghost use Rattle.theory.specs.inner.Pieces.{texts};
 ghost use Rattle.theory.specs.Steps.{step_of, AreSteps};
 ghost use Rattle.theory.specs.declared.steps.Step.{Step};
 

@@ -1,5 +1,6 @@
 ghost use Rattle.std.specs.Prelude.{◌≡◌, ◌++◌, List, IfOk, OnOk, decimal, length};
-ghost use Rattle.theory.specs.Reports.{status_text, theory_line, theorem_line, theorem_lines, HasPredicates, IsReportOf};
+ghost use Rattle.theory.specs.Reports.{status_text, theory_line, theorem_line, theorem_lines, IsReportOf};
+ghost use Rattle.theory.specs.inner.Reports.{HasPredicates};
 
 use crate::reports::{Status, statuses};
 use crate::script::{Script, Theory};

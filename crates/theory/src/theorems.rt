@@ -1,6 +1,7 @@
 ghost use Rattle.std.specs.Prelude.{◌≡◌, List, IfNone, IfOk, IfSome, option_map};
-ghost use Rattle.theory.specs.Words.{texts};
-ghost use Rattle.theory.specs.Theorems.{begins_blank, is_label, labelled, labelled_text, theorem_parts, IsTheorem, AreTheorems};
+ghost use Rattle.theory.specs.inner.Pieces.{texts};
+ghost use Rattle.theory.specs.Theorems.{begins_blank, is_label, labelled, theorem_parts, IsTheorem, AreTheorems};
+ghost use Rattle.theory.specs.inner.Pieces.{labelled_text};
 ghost use Rattle.theory.specs.declared.theorems.Theorem.{Theorem};
 
 use crate::formulas::formula_of;

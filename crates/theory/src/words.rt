@@ -1,7 +1,8 @@
 ghost use Rattle.std.specs.Prelude.{◌≡◌, bytes_eq, IfOk};
 ghost use Rattle.std.specs.List.{list_all, list_any};
 ghost use Rattle.std.specs.Char.{is_ascii_digit};
-ghost use Rattle.theory.specs.Words.{is_blank, are_blanks, is_word_char, begins_word, is_word, is_reserved, is_name, is_variable_name, skip_blanks, drop_last_blanks, trimmed, lines_of, words_of, full_lines, texts};
+ghost use Rattle.theory.specs.Words.{is_blank, are_blanks, is_word_char, begins_word, is_word, is_reserved, is_name, is_variable_name, skip_blanks, drop_last_blanks, trimmed, lines_of, words_of, full_lines};
+ghost use Rattle.theory.specs.inner.Pieces.{texts};
 
 use std::alloc::{AllocError, Global};
 

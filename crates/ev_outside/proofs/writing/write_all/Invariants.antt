@@ -8,6 +8,7 @@ invariant-loop-at g l =
       within : l.at ≤ length l.bytes;
       appended : Appends (g.K.Sink.written l.initial.sink) (g.K.Sink.written l.sink) (take l.at l.bytes);
       count : g.K.Sink.faults l.initial.sink ≤ g.K.Sink.faults l.sink;
+      short_count : g.K.Sink.shortages l.initial.sink ≤ g.K.Sink.shortages l.sink;
     }
 
 abbrev pub decreases-loop-at : goal.decreases-loop-at

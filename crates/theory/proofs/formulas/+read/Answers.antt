@@ -8,7 +8,7 @@ use Rattle.ev_forms.specs.declared.connectives.Connective.{Connective}
 use Rattle.theory.specs.declared.formulas.Found.{Found}
 use Rattle.theory.specs.declared.formulas.Want.TheVariants as want
 use Rattle.theory.specs.Formulas.{mark_of, Literal, Chain, is_true, is_false, is_negation}
-use Rattle.theory.specs.Parsing.{StopsBefore, Reads, ExtendsToConjunction, ExtendsToPredicate, Extends, Gives}
+use Rattle.theory.specs.inner.Parsing.{StopsBefore, Reads, ExtendsToConjunction, ExtendsToPredicate, Extends, Gives}
 use Rattle.theory.proofs.ReadLaws.{gives_none, gives_some, gives_other, none_holds, some_holds, chain_step, climbs_end, climbs_no_literal, climbs_too_deep, alone_extends, mixed, no_conjunction_no_predicate, no_right, goes_further, joined_too_deep, predicate_joined, depth-neg, a_value, no_value, paren_at, nothing_without_levels, no_literal_no_more, no_literal_under, nothing_within, not_closed, closed, reads_extends, extends_reads}
 use Rattle.theory.proofs.formulas.+read.Goals as goal
 

@@ -2,7 +2,7 @@ use Rattle.std.proofs.Common.{Vec, subst, sym, ap, arith, drop, length, length-d
 use Rattle.theory.specs.declared.marks.Mark.{Mark}
 use Rattle.theory.specs.declared.formulas.Want.TheVariants as want
 use Rattle.theory.specs.Formulas.{AreMarks}
-use Rattle.theory.specs.Parsing.{Reads}
+use Rattle.theory.specs.inner.Parsing.{Reads}
 use Rattle.theory.proofs.ReadLaws.{gives_none, gives_some, some_holds}
 use Rattle.theory.proofs.ReadingLaws.{formula_none, formula_other}
 use Rattle.std.specs.declared.alloc.Global.{Global}

@@ -1,5 +1,6 @@
-use Rattle.theory.specs.Words.{texts}
-use Rattle.theory.specs.Scripts.{IsUnitAt, IsProof}
+use Rattle.theory.specs.inner.Pieces.{texts}
+use Rattle.theory.specs.Scripts.{IsProof}
+use Rattle.theory.specs.inner.Scripts.{IsUnitAt}
 use Rattle.theory.specs.declared.script.UnitSpan.{UnitSpan}
 use Rattle.theory.specs.declared.script.StoredProof.{StoredProof}
 use Rattle.theory.proofs.ReadLaws.{none_holds, some_holds}

@@ -1,5 +1,5 @@
 use Rattle.std.proofs.Common.{length}
-use Rattle.theory.specs.Words.{texts}
+use Rattle.theory.specs.inner.Pieces.{texts}
 use Rattle.theory.proofs.ScriptLaws.{ProofsSoFar}
 use Rattle.theory.proofs.script.proofs_of.Given as goal
 

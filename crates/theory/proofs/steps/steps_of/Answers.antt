@@ -1,6 +1,6 @@
 use Rattle.std.proofs.Common.{◌+◌, ap, subst, sym, ◌∙◌, arith, drop}
 use Rattle.std.specs.List.{AllZip}
-use Rattle.theory.specs.Words.{texts, piece}
+use Rattle.theory.specs.inner.Pieces.{texts, piece}
 use Rattle.theory.specs.Steps.{IsStep, step_of}
 use Rattle.theory.proofs.ReadingLaws.{ReadSoFar, read_on, so_far_next, so_far_end, step_one, lines_are}
 use Rattle.theory.proofs.steps.steps_of.Goals as goal

@@ -1,5 +1,5 @@
 use Rattle.std.proofs.Common.{drop}
-use Rattle.theory.specs.Words.{texts}
+use Rattle.theory.specs.inner.Pieces.{texts}
 use Rattle.theory.specs.Steps.{IsStep}
 use Rattle.theory.proofs.ReadingLaws.{ReadSoFar}
 use Rattle.theory.proofs.steps.steps_of.Given as goal

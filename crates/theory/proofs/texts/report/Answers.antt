@@ -1,5 +1,6 @@
 use Rattle.std.proofs.Common.{◌∙◌, ap, sym, subst, length}
-use Rattle.theory.specs.Reports.{HasPredicates, HasStatus, IsReportOf}
+use Rattle.theory.specs.Reports.{HasStatus, IsReportOf}
+use Rattle.theory.specs.inner.Reports.{HasPredicates}
 use Rattle.theory.proofs.ReportLaws.{as_many, report_is, text_is}
 use Rattle.theory.proofs.texts.report.Goals as goal
 

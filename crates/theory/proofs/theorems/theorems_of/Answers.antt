@@ -1,7 +1,7 @@
 use Rattle.std.proofs.Common.{◌+◌, ◌∷◌, [], ap, subst, sym, ◌∙◌, arith, drop}
 use Rattle.std.specs.List.{AllZip}
 use Rattle.theory.specs.declared.theorems.Theorem.{Theorem}
-use Rattle.theory.specs.Words.{texts, piece}
+use Rattle.theory.specs.inner.Pieces.{texts, piece}
 use Rattle.theory.specs.Theorems.{IsTheorem, AreDifferent, labels_of}
 use Rattle.theory.proofs.ReadLaws.{none_holds, some_holds}
 use Rattle.theory.proofs.ReadingLaws.{ReadSoFar, read_on, read_none, so_far_next, so_far_end, theorem_one, lines_are, repeated, different_on, labels-more, fresh_key, fresh_keys, old_key}

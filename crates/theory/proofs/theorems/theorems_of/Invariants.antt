@@ -1,5 +1,5 @@
 use Rattle.std.proofs.Common.{◌≡◌, [], drop}
-use Rattle.theory.specs.Words.{texts}
+use Rattle.theory.specs.inner.Pieces.{texts}
 use Rattle.theory.specs.Theorems.{IsTheorem, AreDifferent, labels_of}
 use Rattle.theory.proofs.ReadingLaws.{ReadSoFar}
 use Rattle.theory.proofs.theorems.theorems_of.Given as goal

@@ -1,5 +1,6 @@
 use Rattle.std.proofs.Common.{◌≡◌, ◌++◌, drop}
-use Rattle.theory.specs.Words.{full_lines, texts}
+use Rattle.theory.specs.Words.{full_lines}
+use Rattle.theory.specs.inner.Pieces.{texts}
 use Rattle.theory.proofs.words.full_lines.Given as goal
 
 abbrev pub invariant-loop-line : goal.invariant-loop-line

@@ -11,7 +11,7 @@ sure_left source = drop source.at source.bytes.items
 
 -- the bytes that were written
 abbrev pub sure_written : SureSink → List ℕ
-sure_written sink = sink.bytes.items
+sure_written sink = sink.store.bytes.items
 
 -- the bytes that are left to read
 abbrev pub source_left : MemSource → List ℕ
@@ -19,4 +19,4 @@ source_left source = drop source.at source.bytes.items
 
 -- the bytes that were written
 abbrev pub sink_written : MemSink → List ℕ
-sink_written sink = sink.bytes.items
+sink_written sink = sink.store.bytes.items

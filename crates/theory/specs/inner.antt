@@ -1,0 +1,5 @@
+pub mod Pieces
+pub mod Parsing
+pub mod Scripts
+pub mod Reports
+pub mod Answers
