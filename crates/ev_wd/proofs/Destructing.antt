@@ -22,11 +22,10 @@ use Rattle.ev_typing.specs.WellFormed.{IsWellFormed}
 use Rattle.ev_typing.proofs.Names.{all_append, drop_at, drop_all}
 use Rattle.ev_typing.proofs.Entries.{find_symbol-declaring}
 use Rattle.ev_forms.specs.Forms.{exists_all, eq, vars, call}
-use Rattle.ev_wd.specs.declared.limits.TheConstants.{DEPTH_LIMIT}
-use Rattle.ev_wd.specs.Limits.{IsSmall}
+use Rattle.ev_wd.specs.Limits.{IsSmall, greatest_depth}
 use Rattle.ev_wd.specs.Makers.{joined_after}
 use Rattle.ev_wd.specs.WellDefined.{is_made_by, parts_of_condition, parts_of_destructor, parts_of_symbol}
-use Rattle.ev_wd.specs.Destructors.{destructed}
+use Rattle.ev_wd.specs.inner.Destructors.{destructed}
 use Rattle.ev_wd.proofs.Small.{small_by}
 use Rattle.ev_wd.proofs.Making.{and_right}
 use Rattle.ev_wd.proofs.Rules.{append_nil}
@@ -89,7 +88,7 @@ pub length-types : (θ : ℕ → Ty) (fs : List Var) → length (map (type_inst 
 length-types θ [] = refl
 length-types θ (f ∷ fs) = ap suc (length-types θ fs)
 
-pub made_fields : (d : Name) (c : Con) (As : Tys) (e : Term) → IsSmall (is_made_by d c As e) → length c.fields ≤ DEPTH_LIMIT
+pub made_fields : (d : Name) (c : Con) (As : Tys) (e : Term) → IsSmall (is_made_by d c As e) → length c.fields ≤ greatest_depth
 made_fields d c As e h =
     let P = eq (DataType d As) (shift e 0 (length c.fields)) (call c.name As (vars (length c.fields))) in
     omega (arith, h.depth_fits, exists_depth (map (type_inst (type_at As)) (field_types c)) P, length-types (type_at As) c.fields)
@@ -162,6 +161,10 @@ con_missed d cs i n c o p h e g q =
 
 pub ruleset found = (con_named, con_found, con_missed, drop_at, drop_all)
 
+-- A refusal of parts is one of equal parts.
+pub refused_by : (P : Term) (Ps Qs : List Term) → Ps ≡ Qs → ¬ IsSmall (joined_after P Ps) → ¬ IsSmall (joined_after P Qs)
+refused_by P Ps Qs e h g = h (subst (λ us. IsSmall (joined_after P us)) (sym e) g)
+
 -- A symbol of a datatype asks what its destructor does.
 parts_of_destructed : Name → Option Con → Tys → List Term → List Term
 parts_of_destructed d None As ts = []
@@ -191,62 +194,61 @@ look_up_of d (p ∷ ps) n As ts h = by (bytes_eq p.0 n) (look_up_of d ps n As ts
     by true g = h.0 As ts
     by false g = g
 
-pub asked_some : (P : Term) (d : DataDecl) (n : Name) (c : Con) (As : Tys) (ts : List Term) → Some c ≡ destructed (look_up (flat_map (con_symbols d) d.cons) n) →
-    joined_after P (parts_of_destructor d.name c As ts) ≡ joined_after P (parts_of_symbol (look_up (flat_map (con_symbols d) d.cons) n) As ts)
+pub asked_some : (d : DataDecl) (n : Name) (c : Con) (As : Tys) (ts : List Term) → Some c ≡ destructed (look_up (flat_map (con_symbols d) d.cons) n) →
+    parts_of_destructor d.name c As ts ≡ parts_of_symbol (look_up (flat_map (con_symbols d) d.cons) n) As ts
 unfolding parts_of_destructed
-asked_some P d n c As ts e =
-    ap (joined_after P) (ap (λ o. parts_of_destructed d.name o As ts) e ∙ sym (look_up_of d (flat_map (con_symbols d) d.cons) n As ts (cons_are_of d d.cons)))
+asked_some d n c As ts e =
+    ap (λ o. parts_of_destructed d.name o As ts) e ∙ sym (look_up_of d (flat_map (con_symbols d) d.cons) n As ts (cons_are_of d d.cons))
 
-pub asked_none : (P : Term) (d : DataDecl) (n : Name) (As : Tys) (ts : List Term) → None ≡ destructed (look_up (flat_map (con_symbols d) d.cons) n) →
-    P ≡ joined_after P (parts_of_symbol (look_up (flat_map (con_symbols d) d.cons) n) As ts)
+pub asked_none : (d : DataDecl) (n : Name) (As : Tys) (ts : List Term) → None ≡ destructed (look_up (flat_map (con_symbols d) d.cons) n) →
+    [] ≡ parts_of_symbol (look_up (flat_map (con_symbols d) d.cons) n) As ts
 unfolding parts_of_destructed
-asked_none P d n As ts e =
-    ap (joined_after P) (ap (λ o. parts_of_destructed d.name o As ts) e ∙ sym (look_up_of d (flat_map (con_symbols d) d.cons) n As ts (cons_are_of d d.cons)))
+asked_none d n As ts e =
+    ap (λ o. parts_of_destructed d.name o As ts) e ∙ sym (look_up_of d (flat_map (con_symbols d) d.cons) n As ts (cons_are_of d d.cons))
 
-pub ruleset asked = (asked_some, asked_none)
+pub ruleset asked = (asked_some, asked_none, refused_by)
 
-pub one_child : (P : Term) (d : Name) (c : Con) (As : Tys) (ts : List Term) (e : Term) → ts ≡ e ∷ [] →
-    joined_after P (is_made_by d c As e ∷ []) ≡ joined_after P (parts_of_destructor d c As ts)
-one_child P d c As ts e p = ap (λ us. joined_after P (parts_of_destructor d c As us)) (sym p)
+pub one_child : (d : Name) (c : Con) (As : Tys) (ts : List Term) (e : Term) → ts ≡ e ∷ [] → is_made_by d c As e ∷ [] ≡ parts_of_destructor d c As ts
+one_child d c As ts e p = ap (parts_of_destructor d c As) (sym p)
 
-pub other_children : (P : Term) (d : Name) (c : Con) (As : Tys) (ts : List Term) → ((e : Term) → ts ≡ e ∷ [] → ⊥) → P ≡ joined_after P (parts_of_destructor d c As ts)
-other_children P d c As [] h = refl
-other_children P d c As (e ∷ []) h = absurd (h e refl)
-other_children P d c As (e ∷ f ∷ ts) h = refl
+pub other_children : (d : Name) (c : Con) (As : Tys) (ts : List Term) → ((e : Term) → ts ≡ e ∷ [] → ⊥) → [] ≡ parts_of_destructor d c As ts
+other_children d c As [] h = refl
+other_children d c As (e ∷ []) h = absurd (h e refl)
+other_children d c As (e ∷ f ∷ ts) h = refl
 
 -- a refusal of what the constructor asks is one of the whole
-pub made_part : (P : Term) (d : Name) (c : Con) (As : Tys) (ts : List Term) (e : Term) → ts ≡ e ∷ [] → IsSmall (joined_after P (parts_of_destructor d c As ts)) →
-    IsSmall (is_made_by d c As e)
-made_part P d c As ts e p h = and_right P (is_made_by d c As e) (subst IsSmall (sym (one_child P d c As ts e p)) h)
+pub made_refused : (P : Term) (d : Name) (c : Con) (As : Tys) (ts : List Term) (e : Term) → ts ≡ e ∷ [] → ¬ IsSmall (is_made_by d c As e) →
+    ¬ IsSmall (joined_after P (parts_of_destructor d c As ts))
+made_refused P d c As ts e p h g =
+    h (and_right P (is_made_by d c As e) (subst (λ us. IsSmall (joined_after P us)) (sym (one_child d c As ts e p)) g))
 
-pub ruleset children = (one_child, other_children, made_part)
+pub ruleset children = (one_child, other_children, made_refused)
 
 -- The symbol that an entry declares.
-pub constant_named : (P : Term) (b : Boolean) (sig : Signature) (o : Option Term) (As : Tys) (ts : List Term) →
-    joined_after P (if b then parts_of_condition o As ts else []) ≡ joined_after P (parts_of_symbol (cond b (Some (ConstantOf sig o)) None) As ts)
-constant_named P true sig o As ts = refl
-constant_named P false sig o As ts = refl
+pub constant_named : (b : Boolean) (sig : Signature) (o : Option Term) (As : Tys) (ts : List Term) →
+    (if b then parts_of_condition o As ts else []) ≡ parts_of_symbol (cond b (Some (ConstantOf sig o)) None) As ts
+constant_named true sig o As ts = refl
+constant_named false sig o As ts = refl
 
-pub direct_named : (P : Term) (b : Boolean) (sig : Signature) (o : Option Term) (body : Term) (As : Tys) (ts : List Term) →
-    joined_after P (if b then parts_of_condition o As ts else []) ≡ joined_after P (parts_of_symbol (cond b (Some (DirectOf sig o body)) None) As ts)
-direct_named P true sig o body As ts = refl
-direct_named P false sig o body As ts = refl
+pub direct_named : (b : Boolean) (sig : Signature) (o : Option Term) (body : Term) (As : Tys) (ts : List Term) →
+    (if b then parts_of_condition o As ts else []) ≡ parts_of_symbol (cond b (Some (DirectOf sig o body)) None) As ts
+direct_named true sig o body As ts = refl
+direct_named false sig o body As ts = refl
 
-pub recursive_named : (P : Term) (b : Boolean) (sig : Signature) (o : Option Term) (place : ℕ) (bodies : List Term) (As : Tys) (ts : List Term) →
-    joined_after P (if b then parts_of_condition o As ts else []) ≡ joined_after P (parts_of_symbol (cond b (Some (RecursiveOf sig o place bodies)) None) As ts)
-recursive_named P true sig o place bodies As ts = refl
-recursive_named P false sig o place bodies As ts = refl
+pub recursive_named : (b : Boolean) (sig : Signature) (o : Option Term) (place : ℕ) (bodies : List Term) (As : Tys) (ts : List Term) →
+    (if b then parts_of_condition o As ts else []) ≡ parts_of_symbol (cond b (Some (RecursiveOf sig o place bodies)) None) As ts
+recursive_named true sig o place bodies As ts = refl
+recursive_named false sig o place bodies As ts = refl
 
-pub ruleset named = (constant_named, direct_named, recursive_named)
+pub ruleset named = (constant_named, direct_named, recursive_named, refused_by)
 
-pub declared : (P : Term) (env : Env) (n : Name) (e : Entry) (As : Tys) (ts : List Term) → IsWellFormed env → Some e ≡ declaring env n →
-    joined_after P (parts_of_symbol (look_up (symbols e) n) As ts) ≡ joined_after P (parts_of_symbol (find_symbol env n) As ts)
-declared P env n e As ts w p =
-    ap (λ o. joined_after P (parts_of_symbol o As ts)) (ap (option_and_then (λ d. look_up (symbols d) n)) p ∙ sym (find_symbol-declaring env n w))
+pub declared : (env : Env) (n : Name) (e : Entry) (As : Tys) (ts : List Term) → IsWellFormed env → Some e ≡ declaring env n →
+    parts_of_symbol (look_up (symbols e) n) As ts ≡ parts_of_symbol (find_symbol env n) As ts
+declared env n e As ts w p =
+    ap (λ o. parts_of_symbol o As ts) (ap (option_and_then (λ d. look_up (symbols d) n)) p ∙ sym (find_symbol-declaring env n w))
 
-pub undeclared : (P : Term) (env : Env) (n : Name) (As : Tys) (ts : List Term) → IsWellFormed env → None ≡ declaring env n →
-    P ≡ joined_after P (parts_of_symbol (find_symbol env n) As ts)
-undeclared P env n As ts w p =
-    ap (λ o. joined_after P (parts_of_symbol o As ts)) (ap (option_and_then (λ d. look_up (symbols d) n)) p ∙ sym (find_symbol-declaring env n w))
+pub undeclared : (env : Env) (n : Name) (As : Tys) (ts : List Term) → IsWellFormed env → None ≡ declaring env n → [] ≡ parts_of_symbol (find_symbol env n) As ts
+undeclared env n As ts w p =
+    ap (λ o. parts_of_symbol o As ts) (ap (option_and_then (λ d. look_up (symbols d) n)) p ∙ sym (find_symbol-declaring env n w))
 
-pub ruleset entries = (declared, undeclared)
+pub ruleset entries = (declared, undeclared, refused_by)

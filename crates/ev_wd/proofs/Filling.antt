@@ -1,18 +1,18 @@
 -- What the measure of a term with arguments put in needs.
 use Rattle.std.proofs.lemmas.Bool.{true≢false}
-use Rattle.std.proofs.Common.{◌≡◌, ◌↔◌, Bool, false, IsTrue, subst, ℕ, ◌+◌, ◌-◌, ◌≤◌, ◌<◌, List, length, ap, sym, ◌∙◌, refl, arith, max, Some, reverse, get_or}
+use Rattle.std.proofs.Common.{◌≡◌, ◌↔◌, Bool, false, IsTrue, subst, ℕ, ◌+◌, ◌-◌, ◌≤◌, ◌<◌, List, [], ◌∷◌, zero, suc, drop, length, ap, sym, ◌∙◌, refl, arith, max, Some, reverse, get_or}
 use Rattle.ev_terms.specs.declared.types.Tys.{Tys}
 use Rattle.ev_terms.specs.declared.types.Sym.{Sym}
 use Rattle.ev_terms.specs.declared.extents.Extent.{Extent}
 use Rattle.ev_terms.specs.Term.{Term, Terms, var, lit, node, terms, var_of}
 use Rattle.ev_terms.specs.Symbols.{binds}
-use Rattle.ev_terms.specs.Measures.{size, sizes, depth, depths, types_size, types_depth, loose, capped}
+use Rattle.ev_terms.specs.Measures.{size, sizes, depth, depths, types_size, types_depth, loose, all_loose, highest, capped}
 use Rattle.ev_terms.specs.Subst.{shift, inst, insts, lifts, entry, subst as put, fill}
 use Rattle.ev_terms.proofs.Children as children
-use Rattle.ev_wd.specs.declared.limits.TheConstants.{SIZE_LIMIT, DEPTH_LIMIT}
-use Rattle.ev_wd.specs.Limits.{IsSmall}
+use Rattle.ev_wd.specs.Limits.{IsSmall, greatest_size, greatest_depth}
 use Rattle.ev_wd.proofs.Small.{within_small}
-use Rattle.ev_terms.proofs.ListLaws.{inst_closed, size-shift, depth-shift}
+use Rattle.ev_terms.proofs.ListLaws.{inst_closed, size-shift, depth-shift, highest_le}
+use Rattle.ev_terms.proofs.Fits.{loose_inst_le}
 use Rattle.ev_terms.proofs.Laws.{lifts-past, lifts-lifts, entry-get, entry-past}
 
 extent_of : (t u : Term) (e : Extent) → t ≡ u → e ≡ record { size = capped (size t); depth = capped (depth t) } → e ≡ record { size = capped (size u); depth = capped (depth u) }
@@ -82,18 +82,47 @@ filled t ts us e = ap (put t) e
 -- a condition with its arguments put in is as large as was found
 pub filled_small : (t C : Term) (ts us : List Term) (b : Bool) (e : Extent) → us ≡ reverse ts → t ≡ C →
     e ≡ record { size = capped (size (inst (lifts 0 (entry us)) t)); depth = capped (depth (inst (lifts 0 (entry us)) t)) } →
-    (IsTrue b ↔ ((e.size ≤ SIZE_LIMIT) × (e.depth ≤ DEPTH_LIMIT))) → IsTrue b ↔ IsSmall (fill C ts)
+    (IsTrue b ↔ ((e.size ≤ greatest_size) × (e.depth ≤ greatest_depth))) → IsTrue b ↔ IsSmall (fill C ts)
 filled_small t C ts us b e p q r h =
     let g : put t us ≡ fill C ts = ap (put t) p ∙ ap (λ u. fill u ts) q in
     subst (λ v. IsTrue b ↔ IsSmall v) g (within_small (put t us) b e r h)
 
 pub not_filled : (t C : Term) (ts us : List Term) (b : Bool) (e : Extent) → us ≡ reverse ts → t ≡ C →
     e ≡ record { size = capped (size (inst (lifts 0 (entry us)) t)); depth = capped (depth (inst (lifts 0 (entry us)) t)) } →
-    (IsTrue b ↔ ((e.size ≤ SIZE_LIMIT) × (e.depth ≤ DEPTH_LIMIT))) → b ≡ false → ¬ IsSmall (fill C ts)
+    (IsTrue b ↔ ((e.size ≤ greatest_size) × (e.depth ≤ greatest_depth))) → b ≡ false → ¬ IsSmall (fill C ts)
 not_filled t C ts us b e p q r h n g = true≢false (sym ((filled_small t C ts us b e p q r h).1 g) ∙ n)
 
 -- the condition that is built
 pub filled_is : (t C u : Term) (ts us : List Term) → us ≡ reverse ts → t ≡ C → u ≡ put t us → u ≡ fill C ts
 filled_is t C u ts us p q r = r ∙ ap (put t) p ∙ ap (λ v. fill v ts) q
 
+-- its variables have room
+pub filled_room : (t : Term) (us : List Term) (g n : ℕ) (e : Extent) → g ≡ max (loose t) (all_loose (terms us)) →
+    e ≡ record { size = capped (size (inst (lifts 0 (entry us)) t)); depth = capped (depth (inst (lifts 0 (entry us)) t)) } → e.depth ≤ greatest_depth → g + e.depth ≤ n →
+    highest (put t us) ≤ n
+filled_room t us g n e p q small h =
+    let d : e.depth ≡ capped (depth (put t us)) = ap (λ (x : Extent). x.depth) q in
+    omega (
+      arith,
+      highest_le (put t us),
+      loose_inst_le t (max (loose t) (all_loose (terms us))) (entry us) (λ i b. omega (arith, entry_loose us i)),
+    )
+  where
+    entry_loose : (ts : List Term) (i : ℕ) → loose (entry ts i) ≤ max (i + 1) (all_loose (terms ts))
+    entry_loose [] i = omega arith
+    entry_loose (t ∷ ts) zero = omega arith
+    entry_loose (t ∷ ts) (suc i) = omega (arith, entry_loose ts i)
+
 pub ruleset conditions = (not_filled, filled_is)
+
+-- The greatest loose variable.
+pub loose_more : (ts : List Term) (i : ℕ) (t : Term) (g h all : ℕ) → t ≡ get_or ts i t → i < length ts → h ≡ max g (loose t) →
+    max g (all_loose (terms (drop i ts))) ≡ all → max h (all_loose (terms (drop (i + 1) ts))) ≡ all
+loose_more ts i t g h all p k e q =
+    let f : all_loose (terms (drop i ts)) ≡ max (loose t) (all_loose (terms (drop (i + 1) ts))) = ap (λ us. all_loose (terms us)) (children.drop_at ts i t p k) in
+    omega arith
+
+pub loose_done : (ts : List Term) (i g all : ℕ) → drop i ts ≡ [] → max g (all_loose (terms (drop i ts))) ≡ all → g ≡ all
+loose_done ts i g all e q = let f : all_loose (terms (drop i ts)) ≡ 0 = ap (λ us. all_loose (terms us)) e in omega arith
+
+pub ruleset greatest = (children.walk, loose_more, loose_done)

@@ -1,13 +1,16 @@
 pub mod Small
 pub mod Occurrences
 pub mod Making
+pub mod Renamings
+pub mod Sketching
+pub mod Marking
+pub mod Drafting
 pub mod Forming
 pub mod Bounding
 pub mod Asking
 pub mod Filling
 pub mod Destructing
 pub mod Walking
-pub mod SampleProofs
 pub mod Rules
 pub mod Replacing
 pub mod Replaced

@@ -1,5 +1,5 @@
 -- What the makers of conditions make, and that a condition is no smaller than its parts.
-use Rattle.std.proofs.Common.{◌≡◌, ◌≢◌, ℕ, zero, suc, ◌+◌, Bool as Boolean, true, false, List, [], ◌∷◌, ap, sym, ◌∙◌, subst, refl, arith, max}
+use Rattle.std.proofs.Common.{◌≡◌, ◌≢◌, ℕ, zero, suc, ◌+◌, ◌<◌, Bool as Boolean, true, false, List, [], ◌∷◌, length, drop, get_or, ap, sym, ◌∙◌, subst, refl, arith, max}
 use Rattle.std.specs.Prelude.{◌||◌, if◌then◌else◌, pred}
 use Rattle.std.proofs.Math.Path.{fun_ext}
 use Rattle.ev_terms.specs.declared.types.Ty.{Ty}
@@ -10,6 +10,7 @@ use Rattle.ev_terms.specs.Term.{Term, Terms, var, lit, node, nil, cons}
 use Rattle.ev_terms.specs.Symbols.{binds}
 use Rattle.ev_terms.specs.Measures.{size, sizes, depth, depths, types_size, types_depth}
 use Rattle.ev_terms.specs.Subst.{inst, entry, subst as put}
+use Rattle.ev_terms.proofs.Children as children
 use Rattle.ev_terms.proofs.Subst.{ren, rens, lift_rens, ren-is_inst}
 use Rattle.ev_typing.specs.Occurs.{has_var}
 use Rattle.ev_forms.specs.Forms.{truth, is_truth, conj, disj, imp, forall}
@@ -69,6 +70,9 @@ and_right P Q h = by (is_truth P) (is_truth Q) (truth_only Q) h
 pub imp_right_true : (P Q : Term) → Q ≡ truth → truth ≡ make_imp P Q
 imp_right_true P Q e = sym (ap (make_imp P) e)
 
+pub imp_right_itself : (P Q : Term) → Q ≡ truth → Q ≡ make_imp P Q
+imp_right_itself P Q e = e ∙ imp_right_true P Q e
+
 pub imp_left_true : (P Q : Term) → Q ≢ truth → P ≡ truth → Q ≡ make_imp P Q
 imp_left_true P Q h e =
     sym (ap (λ T. make_imp T Q) e ∙ ap (λ b. if b then truth else Q) (no_truth Q h))
@@ -85,6 +89,14 @@ imp_right P Q h = by (is_truth Q) (is_truth P) (truth_only Q) h
     by false true e g = g
     by false false e g = small_by (imp P Q) Q (omega arith) (omega arith) g
 
+pub imp_left : (P Q : Term) → Q ≢ truth → IsSmall (make_imp P Q) → IsSmall P
+imp_left P Q ne h =
+    by (is_truth P) (truth_only P) (subst IsSmall (ap (λ b. if b then truth else (if is_truth P then Q else imp P Q)) (no_truth Q ne)) h)
+  where
+    by : (c : Boolean) → (c ≡ true → P ≡ truth) → IsSmall (if c then Q else imp P Q) → IsSmall P
+    by true e g = subst IsSmall (sym (e refl)) truth_small
+    by false e g = small_by (imp P Q) P (omega arith) (omega arith) g
+
 -- disjunctions
 pub or_left_true : (P Q : Term) → P ≡ truth → truth ≡ make_or P Q
 or_left_true P Q e = sym (ap (λ T. make_or T Q) e)
@@ -92,6 +104,9 @@ or_left_true P Q e = sym (ap (λ T. make_or T Q) e)
 pub or_right_true : (P Q : Term) → P ≢ truth → Q ≡ truth → truth ≡ make_or P Q
 or_right_true P Q h e =
     sym (ap (make_or P) e ∙ ap (λ b. if b || true then truth else disj P truth) (no_truth P h))
+
+pub or_right_itself : (P Q : Term) → P ≢ truth → Q ≡ truth → Q ≡ make_or P Q
+or_right_itself P Q h e = e ∙ or_right_true P Q h e
 
 pub or_neither : (P Q : Term) → P ≢ truth → Q ≢ truth → disj P Q ≡ make_or P Q
 or_neither P Q h g =
@@ -104,6 +119,9 @@ or_right P Q ne h =
     by : (c : Boolean) → (c ≡ true → Q ≡ truth) → IsSmall (if c then truth else disj P Q) → IsSmall Q
     by true e g = subst IsSmall (sym (e refl)) truth_small
     by false e g = small_by (disj P Q) Q (omega arith) (omega arith) g
+
+pub or_left : (P Q : Term) → P ≢ truth → Q ≢ truth → IsSmall (make_or P Q) → IsSmall P
+or_left P Q ne mo h = small_by (disj P Q) P (omega arith) (omega arith) (subst IsSmall (sym (or_neither P Q ne mo)) h)
 
 -- quantifiers
 mutual
@@ -135,18 +153,15 @@ depth-lowered t = ap depth (sym (ren-is_inst pred t)) ∙ depth-ren pred t
 pub lowered_small : (t : Term) → IsSmall (lowered t) → IsSmall t
 lowered_small t h = small_by (lowered t) t (omega (arith, size-lowered t)) (omega (arith, depth-lowered t)) h
 
-pub put-lowered : (t : Term) (ts : List Term) → ts ≡ var 0 ∷ [] → put t ts ≡ lowered t
-put-lowered t ts e = ap (put t) e ∙ ap (λ σ. inst σ t) (fun_ext each)
-  where
-    each : (i : ℕ) → entry (var 0 ∷ []) i ≡ var (pred i)
-    each zero = refl
-    each (suc i) = refl
-
 pub all_bound : (A : Ty) (P : Term) → has_var 0 P ≡ true → forall A P ≡ make_all A P
 all_bound A P e = sym (ap (λ b. if b then forall A P else lowered P) e)
 
 pub all_idle : (A : Ty) (P : Term) → has_var 0 P ≡ false → lowered P ≡ make_all A P
 all_idle A P e = sym (ap (λ b. if b then forall A P else lowered P) e)
+
+pub all_true : (A : Ty) (P : Term) → P ≡ truth → P ≡ make_all A P
+unfolding binds
+all_true A P e = e ∙ sym (ap (make_all A) e)
 
 pub all_body : (A : Ty) (P : Term) → IsSmall (make_all A P) → IsSmall P
 all_body A P h = by (has_var 0 P) h
@@ -160,8 +175,26 @@ pub after_first : (P : Term) (Qs : List Term) → IsSmall (joined_after P Qs) �
 after_first P [] h = h
 after_first P (Q ∷ Qs) h = and_left P Q (after_first (make_and P Q) Qs h)
 
-pub ruleset makers = (and_left_true, and_right_true, and_neither, imp_right_true, imp_left_true, imp_neither, or_left_true, or_right_true, or_neither, all_bound, all_idle)
-
-pub ruleset lowering = (lowered_small, put-lowered)
+pub ruleset makers = (and_left_true, and_right_true, and_neither, imp_right_itself, imp_left_true, imp_neither, imp_left, or_left_true, or_right_itself, or_neither, or_left, all_true, all_bound, all_idle)
 
 pub ruleset joining = (and_left, and_right)
+
+-- one more of a list
+pub one_more : (ts : List Term) (i : ℕ) (t D E J : Term) → t ≡ get_or ts i t → i < length ts → E ≡ make_and D t → joined_after D (drop i ts) ≡ J → joined_after E (drop (i + 1) ts) ≡ J
+one_more ts i t D E J p h e q =
+    ap (λ x. joined_after x (drop (i + 1) ts)) e ∙ sym (ap (joined_after D) (children.drop_at ts i t p h)) ∙ q
+
+pub next_small : (ts : List Term) (i : ℕ) (t D J : Term) → t ≡ get_or ts i t → i < length ts → joined_after D (drop i ts) ≡ J → IsSmall J → IsSmall (make_and D t)
+next_small ts i t D J p h q g =
+    after_first (make_and D t) (drop (i + 1) ts) (subst IsSmall (sym q ∙ ap (joined_after D) (children.drop_at ts i t p h)) g)
+
+pub all_done : (ts : List Term) (i : ℕ) (D J : Term) → drop i ts ≡ [] → joined_after D (drop i ts) ≡ J → D ≡ J
+all_done ts i D J e q = sym (ap (joined_after D) e) ∙ q
+
+pub ruleset listing = (children.walk, one_more, next_small, all_done, after_first)
+
+-- a refusal of the one part is one of the whole
+pub part_refused : (P Q : Term) → ¬ IsSmall Q → ¬ IsSmall (joined_after P (Q ∷ []))
+part_refused P Q h g = h (and_right P Q g)
+
+pub ruleset parts = (part_refused)

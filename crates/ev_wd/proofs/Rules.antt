@@ -7,7 +7,6 @@ use Rattle.std.proofs.lemmas.List.Elements.{Contains-append_right}
 use Rattle.std.proofs.lemmas.Bool.Decides.{nat_tests}
 use Rattle.std.proofs.lemmas.List.{length-reverse, length-append}
 use Rattle.std.proofs.lemmas.Option.{slice_get_within}
-use Rattle.ev_terms.specs.declared.types.TheConstants.{FOR_ALL, FOR_SOME, SET_FORMER}
 use Rattle.ev_terms.specs.declared.types.Ty.{Ty, Prop}
 use Rattle.ev_terms.specs.declared.types.Sym.TheVariants.{Base}
 use Rattle.ev_terms.specs.Types.{type_list}
@@ -30,7 +29,7 @@ use Rattle.ev_typing.specs.WellFormed.{AreGoodFields, IsGoodCondition, IsGoodEnt
 use Rattle.ev_typing.proofs.Names.{all_append, name_same}
 use Rattle.ev_typing.proofs.Entries.{datatypes_named, symbols_named, distinct_left, distinct_right, distinct_apart, look_up_later, absent}
 use Rattle.ev_typing.proofs.Wholes.{HasAll, whole_has_all, found_whole, proper_over, typed_over}
-use Rattle.ev_wd.specs.declared.rows.TheConstants.{AND, OR, IMPLIES, DIVIDE, MOD, POWER, INTER, APPLY, CARD, MIN, MAX}
+use Rattle.ev_wd.specs.Rows.{apply_row, over_row, mod_row, power_row, card_row, big_inter_row, min_row, max_row, and_row, implies_row, or_row, for_all_row, for_some_row, set_row}
 use Rattle.ev_wd.specs.declared.rows.Rule.{Rule}
 use Rattle.ev_wd.specs.declared.rows.Rule.TheVariants.{Both, Either, Bound, Children}
 use Rattle.ev_wd.specs.declared.rows.Demand.TheVariants.{Nothing, Application, Quotient, Remainder, Power, Cardinality, Intersection, Minimum, Maximum}
@@ -72,40 +71,40 @@ decide k n Q f g = ⊎_elim (λ e. f (eqb-true k n e)) g (cases_Bool (k == n))
 
 -- what holds of each row with its rule holds of all
 pub record RuleCases (P : ℕ → Rule → Type 0) : Type 0 where
-  pub conjunction : P AND Both
-  pub implication : P IMPLIES Both
-  pub disjunction : P OR Either
-  pub for_all : P FOR_ALL Bound
-  pub for_some : P FOR_SOME Bound
-  pub set_former : P SET_FORMER Bound
-  pub application : P APPLY (Children Application)
-  pub quotient : P DIVIDE (Children Quotient)
-  pub remainder : P MOD (Children Remainder)
-  pub power : P POWER (Children Power)
-  pub cardinality : P CARD (Children Cardinality)
-  pub intersection : P INTER (Children Intersection)
-  pub minimum : P MIN (Children Minimum)
-  pub maximum : P MAX (Children Maximum)
+  pub conjunction : P and_row Both
+  pub implication : P implies_row Both
+  pub disjunction : P or_row Either
+  pub for_all : P for_all_row Bound
+  pub for_some : P for_some_row Bound
+  pub set_former : P set_row Bound
+  pub application : P apply_row (Children Application)
+  pub quotient : P over_row (Children Quotient)
+  pub remainder : P mod_row (Children Remainder)
+  pub power : P power_row (Children Power)
+  pub cardinality : P card_row (Children Cardinality)
+  pub intersection : P big_inter_row (Children Intersection)
+  pub minimum : P min_row (Children Minimum)
+  pub maximum : P max_row (Children Maximum)
   pub others : (k : ℕ) → binds (Base k) ≡ 0 → P k (Children Nothing)
 
 pub rule_cases : (P : ℕ → Rule → Type 0) → RuleCases P → (k : ℕ) → P k (rule_of k)
 unfolding binds
 rule_cases P c k =
     let at : (n : ℕ) → P n (rule_of n) → k ≡ n → P k (rule_of k) = λ n p e. subst (λ j. P j (rule_of j)) (sym e) p in
-    decide k AND (P k (rule_of k)) (at AND c.conjunction) (λ e0.
-    decide k IMPLIES (P k (rule_of k)) (at IMPLIES c.implication) (λ e1.
-    decide k OR (P k (rule_of k)) (at OR c.disjunction) (λ e2.
-    decide k FOR_ALL (P k (rule_of k)) (at FOR_ALL c.for_all) (λ e3.
-    decide k FOR_SOME (P k (rule_of k)) (at FOR_SOME c.for_some) (λ e4.
-    decide k SET_FORMER (P k (rule_of k)) (at SET_FORMER c.set_former) (λ e5.
-    decide k APPLY (P k (rule_of k)) (at APPLY c.application) (λ e6.
-    decide k DIVIDE (P k (rule_of k)) (at DIVIDE c.quotient) (λ e7.
-    decide k MOD (P k (rule_of k)) (at MOD c.remainder) (λ e8.
-    decide k POWER (P k (rule_of k)) (at POWER c.power) (λ e9.
-    decide k CARD (P k (rule_of k)) (at CARD c.cardinality) (λ e10.
-    decide k INTER (P k (rule_of k)) (at INTER c.intersection) (λ e11.
-    decide k MIN (P k (rule_of k)) (at MIN c.minimum) (λ e12.
-    decide k MAX (P k (rule_of k)) (at MAX c.maximum) (λ e13.
+    decide k and_row (P k (rule_of k)) (at and_row c.conjunction) (λ e0.
+    decide k implies_row (P k (rule_of k)) (at implies_row c.implication) (λ e1.
+    decide k or_row (P k (rule_of k)) (at or_row c.disjunction) (λ e2.
+    decide k for_all_row (P k (rule_of k)) (at for_all_row c.for_all) (λ e3.
+    decide k for_some_row (P k (rule_of k)) (at for_some_row c.for_some) (λ e4.
+    decide k set_row (P k (rule_of k)) (at set_row c.set_former) (λ e5.
+    decide k apply_row (P k (rule_of k)) (at apply_row c.application) (λ e6.
+    decide k over_row (P k (rule_of k)) (at over_row c.quotient) (λ e7.
+    decide k mod_row (P k (rule_of k)) (at mod_row c.remainder) (λ e8.
+    decide k power_row (P k (rule_of k)) (at power_row c.power) (λ e9.
+    decide k card_row (P k (rule_of k)) (at card_row c.cardinality) (λ e10.
+    decide k big_inter_row (P k (rule_of k)) (at big_inter_row c.intersection) (λ e11.
+    decide k min_row (P k (rule_of k)) (at min_row c.minimum) (λ e12.
+    decide k max_row (P k (rule_of k)) (at max_row c.maximum) (λ e13.
     let r : rule_of k ≡ Children Nothing = rw (e0, e1, e2, e3, e4, e5, e6, e7, e8, e9, e10, e11, e12, e13) refl in
     let b : binds (Base k) ≡ 0 = rw (e3, e4, e5) refl in
     subst (P k) (sym r) (c.others k b)))))))))))))))

@@ -4,20 +4,19 @@ use Rattle.std.proofs.Common.{◌≡◌, ◌≤◌, ◌↔◌, Bool, IsTrue, ap,
 use Rattle.ev_terms.specs.Term.{Term}
 use Rattle.ev_terms.specs.Measures.{size, depth, capped}
 use Rattle.ev_terms.specs.declared.extents.Extent.{Extent}
-use Rattle.ev_wd.specs.declared.limits.TheConstants.{SIZE_LIMIT, DEPTH_LIMIT}
 use Rattle.ev_wd.specs.declared.faults.WdFault.{WdFault}
 use Rattle.ev_wd.specs.declared.faults.WdFault.TheVariants.{TooLarge}
-use Rattle.ev_wd.specs.Limits.{IsSmall}
+use Rattle.ev_wd.specs.Limits.{IsSmall, greatest_size, greatest_depth}
 
-pub small_from : (t : Term) → capped (size t) ≤ SIZE_LIMIT → capped (depth t) ≤ DEPTH_LIMIT → IsSmall t
+pub small_from : (t : Term) → capped (size t) ≤ greatest_size → capped (depth t) ≤ greatest_depth → IsSmall t
 small_from t p q = record { size_fits = omega arith; depth_fits = omega arith }
 
-pub small_to : (t : Term) → IsSmall t → (capped (size t) ≤ SIZE_LIMIT) × (capped (depth t) ≤ DEPTH_LIMIT)
+pub small_to : (t : Term) → IsSmall t → (capped (size t) ≤ greatest_size) × (capped (depth t) ≤ greatest_depth)
 small_to t h = (omega (arith, h.size_fits), omega (arith, h.depth_fits))
 
 -- what the test of an extent says of a term
 pub within_small : (t : Term) (b : Bool) (e : Extent) → e ≡ record { size = capped (size t); depth = capped (depth t) } →
-    (IsTrue b ↔ ((e.size ≤ SIZE_LIMIT) × (e.depth ≤ DEPTH_LIMIT))) → IsTrue b ↔ IsSmall t
+    (IsTrue b ↔ ((e.size ≤ greatest_size) × (e.depth ≤ greatest_depth))) → IsTrue b ↔ IsSmall t
 within_small t b e p h =
     let s : e.size ≡ capped (size t) = ap (λ (x : Extent). x.size) p in
     let d : e.depth ≡ capped (depth t) = ap (λ (x : Extent). x.depth) p in

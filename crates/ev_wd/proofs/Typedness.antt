@@ -31,7 +31,7 @@ use Rattle.ev_forms.specs.Forms.{two_types, truth, is_truth, neg, conj, disj, im
 use Rattle.ev_wd.specs.declared.rows.Rule.{Rule}
 use Rattle.ev_wd.specs.declared.rows.Demand.{Demand}
 use Rattle.ev_wd.specs.declared.rows.Demand.TheVariants.{Nothing, Application, Quotient, Remainder, Power, Cardinality, Intersection, Minimum, Maximum}
-use Rattle.ev_wd.specs.declared.rows.TheConstants.{AND, OR, IMPLIES, DIVIDE, MOD, POWER, INTER, APPLY, CARD, MIN, MAX}
+use Rattle.ev_wd.specs.Rows.{apply_row, over_row, mod_row, power_row, card_row, big_inter_row, min_row, max_row, and_row, implies_row, or_row}
 use Rattle.ev_wd.specs.Makers.{make_and, make_imp, make_or, make_all, lowered, joined_after, joined}
 use Rattle.ev_wd.specs.Demands.{is_not_empty, is_bounded, is_in_domain, is_partial_function, parts_of}
 use Rattle.ev_wd.specs.WellDefined.{is_made_by, parts_of_condition, parts_of_symbol, guarded, closed_over, wd_base, wd, wds}
@@ -286,7 +286,7 @@ asks_nothing env k C As (cons S nil) a h = tt
 asks_nothing env k C As (cons E (cons F nil)) a h = tt
 asks_nothing env k C As (cons E (cons F (cons G ts))) a h = tt
 
-asks_application : (env : Env) → Asks env APPLY Application
+asks_application : (env : Env) → Asks env apply_row Application
 asks_application env C As nil a h = tt
 asks_application env C As (cons f nil) a h = tt
 asks_application env C As (cons f (cons x nil)) a h =
@@ -294,39 +294,39 @@ asks_application env C As (cons f (cons x nil)) a h =
     (in_domain_typed env C (type_at As 0) (type_at As 1) f x A B h.0 h.1.0, (function_typed env C (type_at As 0) (type_at As 1) f A B h.0, tt))
 asks_application env C As (cons E (cons F (cons G ts))) a h = tt
 
-asks_quotient : (env : Env) → Asks env DIVIDE Quotient
+asks_quotient : (env : Env) → Asks env over_row Quotient
 asks_quotient env C As nil a h = tt
 asks_quotient env C As (cons E nil) a h = tt
 asks_quotient env C As (cons E (cons F nil)) a h = (neg_typed env C (eq Int F (lit 0)) (eq_typed env C Int F (lit 0) tt h.1.0 (zero_typed env C)), tt)
 asks_quotient env C As (cons E (cons F (cons G ts))) a h = tt
 
-asks_remainder : (env : Env) → Asks env MOD Remainder
+asks_remainder : (env : Env) → Asks env mod_row Remainder
 asks_remainder env C As nil a h = tt
 asks_remainder env C As (cons E nil) a h = tt
 asks_remainder env C As (cons E (cons F nil)) a h =
     (at_most_typed env C (lit 0) E (zero_typed env C) h.0, (less_typed env C (lit 0) F (zero_typed env C) h.1.0, tt))
 asks_remainder env C As (cons E (cons F (cons G ts))) a h = tt
 
-asks_power : (env : Env) → Asks env POWER Power
+asks_power : (env : Env) → Asks env power_row Power
 asks_power env C As nil a h = tt
 asks_power env C As (cons E nil) a h = tt
 asks_power env C As (cons E (cons F nil)) a h =
     (at_most_typed env C (lit 0) E (zero_typed env C) h.0, (at_most_typed env C (lit 0) F (zero_typed env C) h.1.0, tt))
 asks_power env C As (cons E (cons F (cons G ts))) a h = tt
 
-asks_cardinality : (env : Env) → Asks env CARD Cardinality
+asks_cardinality : (env : Env) → Asks env card_row Cardinality
 asks_cardinality env C As nil a h = tt
 asks_cardinality env C As (cons S nil) a h = (finite_typed env C (type_at As 0) S (proper_at env As 0 a) h.0, tt)
 asks_cardinality env C As (cons E (cons F nil)) a h = tt
 asks_cardinality env C As (cons E (cons F (cons G ts))) a h = tt
 
-asks_intersection : (env : Env) → Asks env INTER Intersection
+asks_intersection : (env : Env) → Asks env big_inter_row Intersection
 asks_intersection env C As nil a h = tt
 asks_intersection env C As (cons S nil) a h = (not_empty_typed env C (pow (type_at As 0)) S (proper_at env As 0 a) h.0, tt)
 asks_intersection env C As (cons E (cons F nil)) a h = tt
 asks_intersection env C As (cons E (cons F (cons G ts))) a h = tt
 
-asks_minimum : (env : Env) → Asks env MIN Minimum
+asks_minimum : (env : Env) → Asks env min_row Minimum
 asks_minimum env C As nil a h = tt
 asks_minimum env C As (cons S nil) a h = (
   not_empty_typed env C Int S tt h.0,
@@ -339,7 +339,7 @@ asks_minimum env C As (cons S nil) a h = (
 asks_minimum env C As (cons E (cons F nil)) a h = tt
 asks_minimum env C As (cons E (cons F (cons G ts))) a h = tt
 
-asks_maximum : (env : Env) → Asks env MAX Maximum
+asks_maximum : (env : Env) → Asks env max_row Maximum
 asks_maximum env C As nil a h = tt
 asks_maximum env C As (cons S nil) a h = (
   not_empty_typed env C Int S tt h.0,
@@ -366,20 +366,20 @@ guards env k make b two m C As ts p e h g =
 base_cases : (env : Env) → RuleCases (Goes env)
 unfolding binds
 base_cases env = record {
-  conjunction = λ C As ts p e n a h g. guards env AND make_imp refl refl (imp_typed env) C As ts p e h g;
-  implication = λ C As ts p e n a h g. guards env IMPLIES make_imp refl refl (imp_typed env) C As ts p e h g;
-  disjunction = λ C As ts p e n a h g. guards env OR make_or refl refl (or_typed env) C As ts p e h g;
+  conjunction = λ C As ts p e n a h g. guards env and_row make_imp refl refl (imp_typed env) C As ts p e h g;
+  implication = λ C As ts p e n a h g. guards env implies_row make_imp refl refl (imp_typed env) C As ts p e h g;
+  disjunction = λ C As ts p e n a h g. guards env or_row make_or refl refl (or_typed env) C As ts p e h g;
   for_all = λ C As ts p e n a h g. bound_goes env C As ts (n ∙ sym (ap params_or e)) a (subst (λ Bs. AreTyped env (C ++ take 1 (type_list As)) ts (map (type_inst (type_at As)) Bs)) (sym (ap args_or e)) h) g;
   for_some = λ C As ts p e n a h g. bound_goes env C As ts (n ∙ sym (ap params_or e)) a (subst (λ Bs. AreTyped env (C ++ take 1 (type_list As)) ts (map (type_inst (type_at As)) Bs)) (sym (ap args_or e)) h) g;
   set_former = λ C As ts p e n a h g. bound_goes env C As ts (n ∙ sym (ap params_or e)) a (subst (λ Bs. AreTyped env (C ++ take 1 (type_list As)) ts (map (type_inst (type_at As)) Bs)) (sym (ap args_or e)) h) g;
-  application = λ C As ts p e n a h g. children_go env APPLY Application refl (asks_application env) C As ts p e a h g;
-  quotient = λ C As ts p e n a h g. children_go env DIVIDE Quotient refl (asks_quotient env) C As ts p e a h g;
-  remainder = λ C As ts p e n a h g. children_go env MOD Remainder refl (asks_remainder env) C As ts p e a h g;
-  power = λ C As ts p e n a h g. children_go env POWER Power refl (asks_power env) C As ts p e a h g;
-  cardinality = λ C As ts p e n a h g. children_go env CARD Cardinality refl (asks_cardinality env) C As ts p e a h g;
-  intersection = λ C As ts p e n a h g. children_go env INTER Intersection refl (asks_intersection env) C As ts p e a h g;
-  minimum = λ C As ts p e n a h g. children_go env MIN Minimum refl (asks_minimum env) C As ts p e a h g;
-  maximum = λ C As ts p e n a h g. children_go env MAX Maximum refl (asks_maximum env) C As ts p e a h g;
+  application = λ C As ts p e n a h g. children_go env apply_row Application refl (asks_application env) C As ts p e a h g;
+  quotient = λ C As ts p e n a h g. children_go env over_row Quotient refl (asks_quotient env) C As ts p e a h g;
+  remainder = λ C As ts p e n a h g. children_go env mod_row Remainder refl (asks_remainder env) C As ts p e a h g;
+  power = λ C As ts p e n a h g. children_go env power_row Power refl (asks_power env) C As ts p e a h g;
+  cardinality = λ C As ts p e n a h g. children_go env card_row Cardinality refl (asks_cardinality env) C As ts p e a h g;
+  intersection = λ C As ts p e n a h g. children_go env big_inter_row Intersection refl (asks_intersection env) C As ts p e a h g;
+  minimum = λ C As ts p e n a h g. children_go env min_row Minimum refl (asks_minimum env) C As ts p e a h g;
+  maximum = λ C As ts p e n a h g. children_go env max_row Maximum refl (asks_maximum env) C As ts p e a h g;
   others = λ k z C As ts p e n a h g. children_go env k Nothing z (asks_nothing env k) C As ts p e a h g;
 }
 

@@ -31,8 +31,12 @@ pub at_node : (env : Env) (t : Term) (s : Sym) (As : Tys) (ts : List Term) → t
 at_node env t s As ts e = sym (ap (wd env) e ∙ ap (λ us. wd_node env s As us (wds env (terms ts))) (term_list-terms ts))
 
 -- The conditions of the children, and further ones behind them.
-pub joined-parts : (Ds ps : List Term) (D : Term) → D ≡ joined Ds → joined_after D ps ≡ joined (Ds ++ ps)
-joined-parts Ds ps D e = ap (λ P. joined_after P ps) e ∙ sym (fold-append make_and truth Ds ps)
+pub joined-parts : (Ds ps qs : List Term) (D : Term) → D ≡ joined Ds → qs ≡ ps → joined_after D qs ≡ joined (Ds ++ ps)
+joined-parts Ds ps qs D e f = ap (λ P. joined_after P qs) e ∙ ap (joined_after (joined Ds)) f ∙ sym (fold-append make_and truth Ds ps)
+
+-- a refusal of the parts is one of the whole
+pub parts_refused : (Ds ps : List Term) → ((P : Term) → ¬ IsSmall (joined_after P ps)) → ¬ IsSmall (joined (Ds ++ ps))
+parts_refused Ds ps h g = h (joined Ds) (subst IsSmall (fold-append make_and truth Ds ps) g)
 
 pub joined_part : (Ds ps : List Term) → IsSmall (joined (Ds ++ ps)) → IsSmall (joined Ds)
 joined_part Ds ps h = after_first (joined Ds) ps (subst IsSmall (fold-append make_and truth Ds ps) h)
@@ -100,4 +104,4 @@ next_part env ts i t D J p h q g = and_right D (wd env t) (next_small env ts i t
 pub all_done : (env : Env) (ts : List Term) (i : ℕ) (D J : Term) → drop i ts ≡ [] → joined_after D (wds env (terms (drop i ts))) ≡ J → D ≡ J
 all_done env ts i D J e q = sym (ap (λ us. joined_after D (wds env (terms us))) e) ∙ q
 
-pub ruleset walk = (children.walk, at_leaf, at_node, joined-parts, joined_part, guarded_two, guarded_others, guarded_true, guarded_first, guarded_second, guarded_imp, guarded_or, over_one, over_others, over_body, one_more, next_small, next_part, all_done, truth_small)
+pub ruleset walk = (children.walk, at_leaf, at_node, joined-parts, parts_refused, joined_part, guarded_two, guarded_others, guarded_true, guarded_first, guarded_second, guarded_imp, guarded_or, over_one, over_others, over_body, one_more, next_small, next_part, all_done, truth_small)

@@ -6,8 +6,7 @@ use Rattle.ev_terms.specs.Types.{pow, prod}
 use Rattle.ev_terms.specs.Term.{Term, var, lit}
 use Rattle.ev_terms.specs.Subst.{shift, type_at}
 use Rattle.ev_forms.specs.Forms.{neg, imp, forall, exists, eq, mem, less, at_most, finite, whole, empty, domain, partial_functions}
-use Rattle.ev_terms.specs.declared.types.TheConstants.{FOR_ALL, FOR_SOME, SET_FORMER}
-use Rattle.ev_wd.specs.declared.rows.TheConstants.{AND, OR, IMPLIES, DIVIDE, MOD, POWER, INTER, APPLY, CARD, MIN, MAX}
+use Rattle.ev_wd.specs.Rows.{and_row, or_row, implies_row, for_all_row, for_some_row, over_row, mod_row, power_row, set_row, big_inter_row, apply_row, card_row, min_row, max_row}
 use Rattle.ev_wd.specs.declared.rows.Rule.{Rule}
 use Rattle.ev_wd.specs.declared.rows.Rule.TheVariants.{Both, Either, Bound, Children}
 use Rattle.ev_wd.specs.declared.rows.Demand.{Demand}
@@ -16,21 +15,21 @@ use Rattle.ev_wd.specs.declared.rows.Demand.TheVariants.{Nothing, Application, Q
 -- what is asked beside the conditions of the children
 abbrev pub demand_of : ℕ → Demand
 demand_of k =
-    if k == APPLY then Application
-    else (if k == DIVIDE then Quotient
-    else (if k == MOD then Remainder
-    else (if k == POWER then Power
-    else (if k == CARD then Cardinality
-    else (if k == INTER then Intersection
-    else (if k == MIN then Minimum
-    else (if k == MAX then Maximum else Nothing)))))))
+    if k == apply_row then Application
+    else (if k == over_row then Quotient
+    else (if k == mod_row then Remainder
+    else (if k == power_row then Power
+    else (if k == card_row then Cardinality
+    else (if k == big_inter_row then Intersection
+    else (if k == min_row then Minimum
+    else (if k == max_row then Maximum else Nothing)))))))
 
 -- how the conditions of the children come together
 abbrev pub rule_of : ℕ → Rule
 rule_of k =
-    if k == AND || k == IMPLIES then Both
-    else (if k == OR then Either
-    else (if (k == FOR_ALL || k == FOR_SOME) || k == SET_FORMER then Bound else Children (demand_of k)))
+    if k == and_row || k == implies_row then Both
+    else (if k == or_row then Either
+    else (if (k == for_all_row || k == for_some_row) || k == set_row then Bound else Children (demand_of k)))
 
 -- `not S = {}`, for a set of members of the type
 abbrev pub is_not_empty : Ty → Term → Term

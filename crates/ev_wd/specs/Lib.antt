@@ -1,7 +1,7 @@
+pub mod Rows
 pub mod Limits
 pub mod Makers
 pub mod Demands
 pub mod WellDefined
-pub mod Destructors
-pub mod Samples
 pub mod ConditionLaws
+pub mod inner

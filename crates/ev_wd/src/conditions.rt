@@ -6,37 +6,40 @@ ghost use Rattle.ev_wd.specs.Makers.{make_imp, make_or, joined};
 ghost use Rattle.ev_wd.specs.WellDefined.{wd, wds, wd_node, wd_base, guarded, closed_over};
 ghost use Rattle.ev_wd.specs.declared.faults.WdFault.TheVariants.{TooLarge};
 
+use crate::drafts::Draft;
 use crate::faults::WdFault;
-use crate::limits::limited;
-use crate::makers::{make_all, make_and, make_imp, make_or};
-use crate::parts::{and_parts, only_of, two_of};
+use crate::limits::kept;
+use crate::makers::{and_parts, make_all, make_and, make_imp, make_or};
+use crate::parts::{only_of, parts_of, two_of};
 use crate::rows::{Rule, rule_of};
-use crate::symbols::and_symbol;
+use crate::symbols::symbol_parts;
 use crate::type_nodes::type_at;
-use ev_forms::{is_truth, make_truth, node_parts};
+use ev_forms::{is_truth, node_parts};
 use ev_terms::{Sym, Tree, Tys};
 use ev_typing::Env;
 use std::alloc::Global;
 
 /// The well-definedness condition of a term, a predicate in the same context. `TooLarge` comes exactly where its size is above
-/// `SIZE_LIMIT` or its depth above `DEPTH_LIMIT`, and before anything of that size is built. A condition that would need a variable
-/// of more than 32 bits has no room in a term, and is answered as want of memory. Source: Métayer and Voisin.
+/// `SIZE_LIMIT` or its depth above `DEPTH_LIMIT`, and before anything of that size is built. Linear in the term and the condition: what
+/// quantifiers over idle variables lower is lowered once. Where a variable of the term is within 1,024 of 2^32, a condition may have no
+/// room for it, which is answered as want of memory. Source: Métayer and Voisin.
 pub fn well_defined(alloc: Global, env: &Env, tree: &Tree) -> Result<Tree, WdFault>
     ensures found { IfOk result (λ t. (t ≡ wd env.now tree.now) × IsSmall t) }
     ensures large { result ≡ Err TooLarge → ¬ IsSmall (wd env.now tree.now) }
 {
-    condition(alloc, env, tree)
+    let draft = condition(alloc, env, tree)?;
+    Ok(draft.tree(alloc)?)
 }
 
 #[cycle(condition)]
 #[tactic(auto, using(crate::proofs::Walking::walk))]
-fn condition(alloc: Global, env: &Env, tree: &Tree) -> Result<Tree, WdFault>
+fn condition(alloc: Global, env: &Env, tree: &Tree) -> Result<Draft, WdFault>
     ensures found { IfOk result (λ t. (t ≡ wd env.now tree.now) × IsSmall t) }
     ensures large { result ≡ Err TooLarge → ¬ IsSmall (wd env.now tree.now) }
 {
     match node_parts(tree) {
         Some((sym, types, children)) => node_condition(alloc, env, sym, types, children),
-        None => limited(make_truth(alloc)?),
+        None => kept(Draft::truth(alloc)?),
     }
 }
 
@@ -48,15 +51,16 @@ fn node_condition(
     sym: &Sym,
     types: &Tys,
     children: &[Tree],
-) -> Result<Tree, WdFault>
+) -> Result<Draft, WdFault>
     ensures found { IfOk result (λ t. (t ≡ wd_node env.now sym.now types.now children.now (wds env.now (terms children.now))) × IsSmall t) }
     ensures large { result ≡ Err TooLarge → ¬ IsSmall (wd_node env.now sym.now types.now children.now (wds env.now (terms children.now))) }
 {
     match sym {
         Sym::Base(row) => base_condition(alloc, env, rule_of(*row), types, children),
         Sym::User(name) => {
+            let parts = symbol_parts(alloc, env, name, types, children)?;
             let so_far = all_conditions(alloc, env, children)?;
-            and_symbol(alloc, env, so_far, name, types, children)
+            and_parts(alloc, so_far, parts.as_slice())
         }
     }
 }
@@ -69,7 +73,7 @@ fn base_condition(
     rule: Rule,
     types: &Tys,
     children: &[Tree],
-) -> Result<Tree, WdFault>
+) -> Result<Draft, WdFault>
     ensures found { IfOk result (λ t. (t ≡ wd_base rule types.now children.now (wds env.now (terms children.now))) × IsSmall t) }
     ensures large { result ≡ Err TooLarge → ¬ IsSmall (wd_base rule types.now children.now (wds env.now (terms children.now))) }
 {
@@ -78,8 +82,9 @@ fn base_condition(
         Rule::Either => either_condition(alloc, env, children),
         Rule::Bound => bound_condition(alloc, env, types, children),
         Rule::Children(demand) => {
+            let parts = parts_of(alloc, demand, types, children)?;
             let so_far = all_conditions(alloc, env, children)?;
-            and_parts(alloc, so_far, demand, types, children)
+            and_parts(alloc, so_far, parts.as_slice())
         }
     }
 }
@@ -87,7 +92,7 @@ fn base_condition(
 /// The second child's condition where the first child holds.
 #[cycle(condition)]
 #[tactic(auto, using(crate::proofs::Walking::walk))]
-fn both_condition(alloc: Global, env: &Env, children: &[Tree]) -> Result<Tree, WdFault>
+fn both_condition(alloc: Global, env: &Env, children: &[Tree]) -> Result<Draft, WdFault>
     ensures found { IfOk result (λ t. (t ≡ guarded make_imp children.now (wds env.now (terms children.now))) × IsSmall t) }
     ensures large { result ≡ Err TooLarge → ¬ IsSmall (guarded make_imp children.now (wds env.now (terms children.now))) }
 {
@@ -103,7 +108,7 @@ fn both_condition(alloc: Global, env: &Env, children: &[Tree]) -> Result<Tree, W
 /// The second child's condition where the first child does not hold. It is not made where the first child is `true`.
 #[cycle(condition)]
 #[tactic(auto, using(crate::proofs::Walking::walk))]
-fn either_condition(alloc: Global, env: &Env, children: &[Tree]) -> Result<Tree, WdFault>
+fn either_condition(alloc: Global, env: &Env, children: &[Tree]) -> Result<Draft, WdFault>
     ensures found { IfOk result (λ t. (t ≡ guarded make_or children.now (wds env.now (terms children.now))) × IsSmall t) }
     ensures large { result ≡ Err TooLarge → ¬ IsSmall (guarded make_or children.now (wds env.now (terms children.now))) }
 {
@@ -111,7 +116,7 @@ fn either_condition(alloc: Global, env: &Env, children: &[Tree]) -> Result<Tree,
         return all_conditions(alloc, env, children);
     };
     if is_truth(left) {
-        return limited(make_truth(alloc)?);
+        return kept(Draft::truth(alloc)?);
     }
     let first = condition(alloc, env, left)?;
     let second = condition(alloc, env, right)?;
@@ -127,7 +132,7 @@ fn bound_condition(
     env: &Env,
     types: &Tys,
     children: &[Tree],
-) -> Result<Tree, WdFault>
+) -> Result<Draft, WdFault>
     ensures found { IfOk result (λ t. (t ≡ closed_over types.now (wds env.now (terms children.now))) × IsSmall t) }
     ensures large { result ≡ Err TooLarge → ¬ IsSmall (closed_over types.now (wds env.now (terms children.now))) }
 {
@@ -141,11 +146,11 @@ fn bound_condition(
 /// The conditions of all of the terms.
 #[cycle(condition)]
 #[tactic(auto, using(crate::proofs::Walking::walk))]
-fn all_conditions(alloc: Global, env: &Env, trees: &[Tree]) -> Result<Tree, WdFault>
+fn all_conditions(alloc: Global, env: &Env, trees: &[Tree]) -> Result<Draft, WdFault>
     ensures found { IfOk result (λ t. (t ≡ joined (wds env.now (terms trees.now))) × IsSmall t) }
     ensures large { result ≡ Err TooLarge → ¬ IsSmall (joined (wds env.now (terms trees.now))) }
 {
-    let mut all = limited(make_truth(alloc)?)?;
+    let mut all = kept(Draft::truth(alloc)?)?;
     for tree in trees {
         let one = condition(alloc, env, tree)?;
         all = make_and(alloc, all, one)?;

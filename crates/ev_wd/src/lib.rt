@@ -4,17 +4,19 @@
 
 pub mod condition_laws;
 pub mod conditions;
+mod drafts;
 mod faults;
 mod filled;
 mod limits;
 mod makers;
+mod marks;
 mod nodes;
 mod occurs;
 mod parts;
+mod renaming;
 mod rows;
+mod sketches;
 mod symbols;
-#[cfg(test)]
-mod tests;
 mod type_nodes;
 
 pub use condition_laws::{

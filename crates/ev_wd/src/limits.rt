@@ -1,9 +1,10 @@
 //! The limits of formulas.
 ghost use Rattle.std.specs.Prelude.{◌≡◌, ◌↔◌, ◌≤◌, IsTrue, IfOk, Err};
 ghost use Rattle.ev_terms.specs.Measures.{size, depth, capped};
-ghost use Rattle.ev_wd.specs.Limits.{IsSmall};
+ghost use Rattle.ev_wd.specs.Limits.{IsSmall, greatest_size, greatest_depth};
 ghost use Rattle.ev_wd.specs.declared.faults.WdFault.TheVariants.{TooLarge};
 
+use crate::drafts::Draft;
 use crate::faults::WdFault;
 use ev_terms::{Extent, Tree, extent};
 
@@ -15,7 +16,7 @@ pub const DEPTH_LIMIT: u64 = 512;
 
 /// Whether size and depth are within the limits.
 pub(crate) fn is_within(extent: Extent) -> bool
-    ensures { IsTrue result ↔ ((extent.size ≤ SIZE_LIMIT) × (extent.depth ≤ DEPTH_LIMIT)) }
+    ensures { IsTrue result ↔ ((extent.size ≤ greatest_size) × (extent.depth ≤ greatest_depth)) }
 {
     extent.size <= SIZE_LIMIT && extent.depth <= DEPTH_LIMIT
 }
@@ -28,13 +29,14 @@ pub(crate) fn is_small(tree: &Tree) -> bool
     is_within(extent(tree))
 }
 
-/// The term, where it is within the limits.
-pub(crate) fn limited(tree: Tree) -> Result<Tree, WdFault>
-    ensures found { IfOk result (λ t. (t ≡ tree) × IsSmall t) }
-    ensures large { result ≡ Err TooLarge → ¬ IsSmall tree }
+/// The condition, where it is within the limits.
+#[tactic(auto, using(crate::proofs::Small::limits))]
+pub(crate) fn kept(draft: Draft) -> Result<Draft, WdFault>
+    ensures found { IfOk result (λ t. (t ≡ draft) × IsSmall t) }
+    ensures large { result ≡ Err TooLarge → ¬ IsSmall draft }
 {
-    if is_small(&tree) {
-        Ok(tree)
+    if is_within(draft.extent()) {
+        Ok(draft)
     } else {
         Err(WdFault::TooLarge)
     }

@@ -11,7 +11,7 @@ ghost use Rattle.ev_wd.specs.Demands.{is_not_empty, is_bounded, is_in_domain, is
 ghost use Rattle.ev_wd.specs.declared.faults.WdFault.TheVariants.{TooLarge};
 
 use crate::faults::WdFault;
-use crate::limits::{is_small, limited};
+use crate::limits::is_small;
 use crate::type_nodes::{one_type, pair_of, set_of, two_types, type_at};
 use ev_forms::{
     Binder, Connective, Relation, make_bound, make_joined, make_negation, make_related,
@@ -180,11 +180,11 @@ pub(crate) fn is_partial_function(
     )
 }
 
-/// `#k. !m. m : S => P`, where k is the variable 1 of P and m the variable 0. A term that has no room for its variables is answered as
-/// want of memory.
+/// `#k. !m. m : S => P`, where k is the variable 1 of P and m the variable 0. A set with a variable too near 2^32 to be raised by 2 is
+/// answered as want of memory.
 #[tactic(auto, using(crate::proofs::Bounding::bounds))]
 pub(crate) fn is_bounded(alloc: Global, predicate: Tree, set: &Tree) -> Result<Tree, WdFault>
-    ensures found { IfOk result (λ t. (t ≡ is_bounded predicate set.now) × IsSmall t) }
+    ensures found { IfOk result (λ t. t ≡ is_bounded predicate set.now) }
     ensures large { result ≡ Err TooLarge → ¬ IsSmall (is_bounded predicate set.now) }
 {
     if !is_small(set) {
@@ -197,5 +197,5 @@ pub(crate) fn is_bounded(alloc: Global, predicate: Tree, set: &Tree) -> Result<T
     let member = make_related(alloc, Relation::In, Ty::Int, make_var(alloc, 0)?, set)?;
     let implied = make_joined(alloc, Connective::Implies, member, predicate)?;
     let all = make_bound(alloc, Binder::ForAll, Ty::Int, implied)?;
-    limited(make_bound(alloc, Binder::ForSome, Ty::Int, all)?)
+    Ok(make_bound(alloc, Binder::ForSome, Ty::Int, all)?)
 }

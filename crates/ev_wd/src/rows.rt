@@ -31,28 +31,28 @@ pub enum Demand {
     Maximum,
 }
 
-/// The rows of the symbols that ask something, from 0.
-pub const AND: u16 = 3;
+/// The rows of these symbols in the table of base symbols, from 0.
+const AND: u16 = 3;
 
-pub const OR: u16 = 4;
+const OR: u16 = 4;
 
-pub const IMPLIES: u16 = 5;
+const IMPLIES: u16 = 5;
 
-pub const DIVIDE: u16 = 22;
+const DIVIDE: u16 = 22;
 
-pub const MOD: u16 = 23;
+const MOD: u16 = 23;
 
-pub const POWER: u16 = 24;
+const POWER: u16 = 24;
 
-pub const INTER: u16 = 37;
+const INTER: u16 = 37;
 
-pub const APPLY: u16 = 56;
+const APPLY: u16 = 56;
 
-pub const CARD: u16 = 61;
+const CARD: u16 = 61;
 
-pub const MIN: u16 = 62;
+const MIN: u16 = 62;
 
-pub const MAX: u16 = 63;
+const MAX: u16 = 63;
 
 pub(crate) fn demand_of(row: u16) -> Demand
     ensures { result ≡ demand_of row }

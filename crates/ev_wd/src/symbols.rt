@@ -1,8 +1,9 @@
 //! What a declared symbol asks beside the conditions of its children.
-ghost use Rattle.std.specs.Prelude.{◌≡◌, ◌++◌, [], ◌∷◌, map, flat_map, find, reverse, bytes_eq, if◌then◌else◌, IfOk, Err};
+ghost use Rattle.std.specs.Prelude.{◌≡◌, ◌≤◌, ◌++◌, [], ◌∷◌, map, flat_map, find, reverse, bytes_eq, if◌then◌else◌, IfOk, Err};
 ghost use Rattle.std.specs.Option.{option_copied};
 ghost use Rattle.std.specs.List.{list_any};
-ghost use Rattle.ev_terms.specs.Term.{node, terms};
+ghost use Rattle.ev_terms.specs.Term.{Term, node, terms};
+ghost use Rattle.ev_terms.specs.Measures.{all_loose};
 ghost use Rattle.ev_terms.specs.declared.types.Sym.TheVariants.{User};
 ghost use Rattle.ev_terms.specs.Subst.{fill, instance, type_inst, type_at};
 ghost use Rattle.ev_typing.specs.declared.typing.Var.{Var};
@@ -11,18 +12,17 @@ ghost use Rattle.ev_forms.specs.Forms.{exists_all, vars};
 ghost use Rattle.ev_wd.specs.Limits.{IsSmall};
 ghost use Rattle.ev_wd.specs.Makers.{joined_after};
 ghost use Rattle.ev_wd.specs.WellDefined.{is_made_by, parts_of_condition, parts_of_destructor, parts_of_symbol};
-ghost use Rattle.ev_wd.specs.Destructors.{destructed};
+ghost use Rattle.ev_wd.specs.inner.Destructors.{destructed};
 ghost use Rattle.ev_wd.specs.declared.faults.WdFault.TheVariants.{TooLarge};
 
 use crate::faults::WdFault;
 use crate::filled::filled_extent;
-use crate::limits::{DEPTH_LIMIT, is_small, is_within, limited};
-use crate::makers::make_and;
-use crate::parts::only_of;
+use crate::limits::{DEPTH_LIMIT, is_small, is_within};
+use crate::parts::{one_part, only_of};
 use ev_forms::{Binder, Relation, make_bound, make_related};
 use ev_terms::{
-    Name, NoMemory, Sym, Tree, Trees, TryCopy, Ty, Tys, instantiate_type, instantiate_types,
-    make_node, make_var, shift, shift_fits, substitute, substitute_fits,
+    Name, NoMemory, Sym, Tree, Trees, TryCopy, Ty, Tys, instantiate_type, instantiate_types, loose,
+    make_node, make_var, shift, shift_fits, substitute,
 };
 use ev_typing::{Con, DataDecl, Entry, Env, Signature, Var};
 use std::alloc::Global;
@@ -59,7 +59,7 @@ fn bind_fields(alloc: Global, fields: &[Var], types: &Tys, body: Tree) -> Result
     }
 }
 
-/// `#xs. e = c(xs)`. A term that has no room for its variables is answered as want of memory.
+/// `#xs. e = c(xs)`. A value with a variable too near 2^32 to be raised by the number of fields is answered as want of memory.
 #[tactic(auto, using(crate::proofs::Destructing::made))]
 fn is_made_by(
     alloc: Global,
@@ -68,7 +68,7 @@ fn is_made_by(
     types: &Tys,
     value: &Tree,
 ) -> Result<Tree, WdFault>
-    ensures found { IfOk result (λ t. (t ≡ is_made_by name_of.now con.now types.now value.now) × IsSmall t) }
+    ensures found { IfOk result (λ t. t ≡ is_made_by name_of.now con.now types.now value.now) }
     ensures large { result ≡ Err TooLarge → ¬ IsSmall (is_made_by name_of.now con.now types.now value.now) }
 {
     let fields = con.fields.as_slice();
@@ -84,7 +84,7 @@ fn is_made_by(
     let made = make_node(alloc, sym, types.try_copy(alloc)?, make_vars(alloc, count)?)?;
     let ty = Ty::Data(name_of.try_copy(alloc)?, types.try_copy(alloc)?);
     let equal = make_related(alloc, Relation::Equal, ty, raised, made)?;
-    limited(bind_fields(alloc, fields, types, equal)?)
+    Ok(bind_fields(alloc, fields, types, equal)?)
 }
 
 /// The terms from the last to the first.
@@ -101,8 +101,21 @@ fn reversed(alloc: Global, trees: &[Tree]) -> Result<Trees, NoMemory>
     Ok(all)
 }
 
-/// The condition of an operator with types and arguments put in. A term that has no room for its variables is answered as want of
-/// memory.
+/// One more than the greatest variable of the terms that reaches outside, or 0.
+#[tactic(auto, using(crate::proofs::Filling::greatest))]
+fn greatest_loose(trees: &[Tree]) -> u64
+    ensures is { result ≡ all_loose (terms trees.now) }
+    ensures small { result ≤ 4294967296 }
+{
+    let mut greatest = 0;
+    for tree in trees {
+        greatest = greatest.max(loose(tree));
+    }
+    greatest
+}
+
+/// The condition of an operator with types and arguments put in. An argument with a variable that is nearer to 2^32 than the condition
+/// is deep is answered as want of memory.
 #[tactic(auto, using(crate::proofs::Filling::conditions))]
 fn condition_at(
     alloc: Global,
@@ -110,58 +123,58 @@ fn condition_at(
     types: &Tys,
     children: &[Tree],
 ) -> Result<Tree, WdFault>
-    ensures found { IfOk result (λ t. (t ≡ fill (instance condition.now types.now) children.now) × IsSmall t) }
+    ensures found { IfOk result (λ t. t ≡ fill (instance condition.now types.now) children.now) }
     ensures large { result ≡ Err TooLarge → ¬ IsSmall (fill (instance condition.now types.now) children.now) }
 {
     let instance = instantiate_types(alloc, condition, types)?;
     let entries = reversed(alloc, children)?;
-    if !is_within(filled_extent(&instance, 0, entries.as_slice())) {
+    let extent = filled_extent(&instance, 0, entries.as_slice());
+    if !is_within(extent) {
         return Err(WdFault::TooLarge);
     }
-    if !substitute_fits(&instance, &entries) {
+    let greatest = loose(&instance).max(greatest_loose(entries.as_slice()));
+    if greatest + extent.depth > 1 << 32 {
         return Err(WdFault::NoMemory);
     }
-    limited(substitute(alloc, &instance, &entries)?)
+    Ok(substitute(alloc, &instance, &entries)?)
 }
 
-/// A condition with that of an operator or a constant, where it has one.
-#[tactic(auto, using(crate::proofs::Making::joining))]
-fn and_condition(
+/// What an operator or a constant asks: its condition, where it has one.
+#[tactic(auto, using(crate::proofs::Making::parts))]
+fn condition_parts(
     alloc: Global,
-    so_far: Tree,
     condition: &Option<Tree>,
     types: &Tys,
     children: &[Tree],
-) -> Result<Tree, WdFault>
-    ensures found { IfOk result (λ t. (t ≡ joined_after so_far (parts_of_condition condition.now types.now children.now)) × IsSmall t) }
-    ensures large { result ≡ Err TooLarge → ¬ IsSmall (joined_after so_far (parts_of_condition condition.now types.now children.now)) }
+) -> Result<Trees, WdFault>
+    ensures found { IfOk result (λ ts. ts ≡ parts_of_condition condition.now types.now children.now) }
+    ensures large { result ≡ Err TooLarge → (P : Term) → ¬ IsSmall (joined_after P (parts_of_condition condition.now types.now children.now)) }
 {
     match condition {
         Some(tree) => {
             let part = condition_at(alloc, tree, types, children)?;
-            make_and(alloc, so_far, part)
+            Ok(one_part(alloc, part)?)
         }
-        None => limited(so_far),
+        None => Ok(Trees::new(alloc)),
     }
 }
 
 /// The same, where the operator or the constant has the name.
-fn and_named(
+fn named_parts(
     alloc: Global,
-    so_far: Tree,
     signature: &Signature,
     condition: &Option<Tree>,
     name: &Name,
     types: &Tys,
     children: &[Tree],
-) -> Result<Tree, WdFault>
-    ensures found { IfOk result (λ t. (t ≡ joined_after so_far (if bytes_eq signature.now.name name.now then parts_of_condition condition.now types.now children.now else [])) × IsSmall t) }
-    ensures large { result ≡ Err TooLarge → ¬ IsSmall (joined_after so_far (if bytes_eq signature.now.name name.now then parts_of_condition condition.now types.now children.now else [])) }
+) -> Result<Trees, WdFault>
+    ensures found { IfOk result (λ ts. ts ≡ (if bytes_eq signature.now.name name.now then parts_of_condition condition.now types.now children.now else [])) }
+    ensures large { result ≡ Err TooLarge → (P : Term) → ¬ IsSmall (joined_after P (if bytes_eq signature.now.name name.now then parts_of_condition condition.now types.now children.now else [])) }
 {
     if signature.name == *name {
-        and_condition(alloc, so_far, condition, types, children)
+        condition_parts(alloc, condition, types, children)
     } else {
-        limited(so_far)
+        Ok(Trees::new(alloc))
     }
 }
 
@@ -194,85 +207,81 @@ fn destructed<'a>(decl: &'a DataDecl, name: &Name) -> Option<&'a Con>
     None
 }
 
-/// A condition with what a destructor of the name asks.
+/// What a destructor of the name asks.
 #[tactic(auto, using(crate::proofs::Destructing::asked))]
-fn and_destructor(
+fn destructor_parts(
     alloc: Global,
-    so_far: Tree,
     decl: &DataDecl,
     name: &Name,
     types: &Tys,
     children: &[Tree],
-) -> Result<Tree, WdFault>
-    ensures found { IfOk result (λ t. (t ≡ joined_after so_far (parts_of_symbol (look_up (flat_map (con_symbols decl.now) decl.now.cons) name.now) types.now children.now)) × IsSmall t) }
-    ensures large { result ≡ Err TooLarge → ¬ IsSmall (joined_after so_far (parts_of_symbol (look_up (flat_map (con_symbols decl.now) decl.now.cons) name.now) types.now children.now)) }
+) -> Result<Trees, WdFault>
+    ensures found { IfOk result (λ ts. ts ≡ parts_of_symbol (look_up (flat_map (con_symbols decl.now) decl.now.cons) name.now) types.now children.now) }
+    ensures large { result ≡ Err TooLarge → (P : Term) → ¬ IsSmall (joined_after P (parts_of_symbol (look_up (flat_map (con_symbols decl.now) decl.now.cons) name.now) types.now children.now)) }
 {
     match destructed(decl, name) {
-        Some(con) => and_made_by(alloc, so_far, &decl.name, con, types, children),
-        None => limited(so_far),
+        Some(con) => made_parts(alloc, &decl.name, con, types, children),
+        None => Ok(Trees::new(alloc)),
     }
 }
 
 #[tactic(auto, using(crate::proofs::Destructing::children))]
-fn and_made_by(
+fn made_parts(
     alloc: Global,
-    so_far: Tree,
     name_of: &Name,
     con: &Con,
     types: &Tys,
     children: &[Tree],
-) -> Result<Tree, WdFault>
-    ensures found { IfOk result (λ t. (t ≡ joined_after so_far (parts_of_destructor name_of.now con.now types.now children.now)) × IsSmall t) }
-    ensures large { result ≡ Err TooLarge → ¬ IsSmall (joined_after so_far (parts_of_destructor name_of.now con.now types.now children.now)) }
+) -> Result<Trees, WdFault>
+    ensures found { IfOk result (λ ts. ts ≡ parts_of_destructor name_of.now con.now types.now children.now) }
+    ensures large { result ≡ Err TooLarge → (P : Term) → ¬ IsSmall (joined_after P (parts_of_destructor name_of.now con.now types.now children.now)) }
 {
     match only_of(children) {
         Some(value) => {
             let part = is_made_by(alloc, name_of, con, types, value)?;
-            make_and(alloc, so_far, part)
+            Ok(one_part(alloc, part)?)
         }
-        None => limited(so_far),
+        None => Ok(Trees::new(alloc)),
     }
 }
 
-/// A condition with what the symbol that the entry declares under the name asks.
+/// What the symbol that the entry declares under the name asks.
 #[tactic(auto, using(crate::proofs::Destructing::named))]
-fn and_entry(
+fn entry_parts(
     alloc: Global,
-    so_far: Tree,
     entry: &Entry,
     name: &Name,
     types: &Tys,
     children: &[Tree],
-) -> Result<Tree, WdFault>
-    ensures found { IfOk result (λ t. (t ≡ joined_after so_far (parts_of_symbol (look_up (symbols entry.now) name.now) types.now children.now)) × IsSmall t) }
-    ensures large { result ≡ Err TooLarge → ¬ IsSmall (joined_after so_far (parts_of_symbol (look_up (symbols entry.now) name.now) types.now children.now)) }
+) -> Result<Trees, WdFault>
+    ensures found { IfOk result (λ ts. ts ≡ parts_of_symbol (look_up (symbols entry.now) name.now) types.now children.now) }
+    ensures large { result ≡ Err TooLarge → (P : Term) → ¬ IsSmall (joined_after P (parts_of_symbol (look_up (symbols entry.now) name.now) types.now children.now)) }
 {
     match entry {
-        Entry::Data(decl) => and_destructor(alloc, so_far, decl, name, types, children),
+        Entry::Data(decl) => destructor_parts(alloc, decl, name, types, children),
         Entry::Constant(signature, condition)
         | Entry::Direct(signature, condition, _)
         | Entry::Recursive(signature, condition, _, _) => {
-            and_named(alloc, so_far, signature, condition, name, types, children)
+            named_parts(alloc, signature, condition, name, types, children)
         }
     }
 }
 
-/// A condition with what the declared symbol asks of its children.
+/// What the declared symbol asks of its children. `TooLarge` means that no condition with these parts is within the limits.
 #[tactic(auto, using(crate::proofs::Destructing::entries))]
-pub(crate) fn and_symbol(
+pub(crate) fn symbol_parts(
     alloc: Global,
     env: &Env,
-    so_far: Tree,
     name: &Name,
     types: &Tys,
     children: &[Tree],
-) -> Result<Tree, WdFault>
-    ensures found { IfOk result (λ t. (t ≡ joined_after so_far (parts_of_symbol (find_symbol env.now name.now) types.now children.now)) × IsSmall t) }
-    ensures large { result ≡ Err TooLarge → ¬ IsSmall (joined_after so_far (parts_of_symbol (find_symbol env.now name.now) types.now children.now)) }
+) -> Result<Trees, WdFault>
+    ensures found { IfOk result (λ ts. ts ≡ parts_of_symbol (find_symbol env.now name.now) types.now children.now) }
+    ensures large { result ≡ Err TooLarge → (P : Term) → ¬ IsSmall (joined_after P (parts_of_symbol (find_symbol env.now name.now) types.now children.now)) }
 {
     let _opened = env.count();
     match env.symbol(name) {
-        Some(entry) => and_entry(alloc, so_far, entry, name, types, children),
-        None => limited(so_far),
+        Some(entry) => entry_parts(alloc, entry, name, types, children),
+        None => Ok(Trees::new(alloc)),
     }
 }

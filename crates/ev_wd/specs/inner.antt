@@ -1,0 +1,4 @@
+pub mod Destructors
+pub mod Renaming
+pub mod Sketches
+pub mod Marks
