@@ -1,0 +1,5 @@
+pub mod Places
+pub mod Instances
+pub mod Matching
+pub mod PlaceLaws
+pub mod inner
