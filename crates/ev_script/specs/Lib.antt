@@ -1,0 +1,5 @@
+pub mod SequentNames
+pub mod Scripts
+pub mod Laws
+pub mod Generator
+pub mod inner
