@@ -1,0 +1,4 @@
+pub mod AxiomText
+pub mod Axioms
+pub mod AxiomLaws
+pub mod inner

@@ -1,0 +1,11 @@
+pub mod Lists
+pub mod Constructors
+pub mod FaultTests
+pub mod Inductions
+pub mod Cases
+pub mod Occurring
+pub mod Environments
+pub mod RecursiveLaw
+pub mod Formulas
+pub mod Recursions
+pub mod Premises
