@@ -34,7 +34,8 @@ use Rattle.ev_print.specs.Canon.{variable_text, first_type, annotation}
 use Rattle.ev_print.specs.ReadBack.{HasFreeNames}
 use Rattle.ev_print.specs.Texts.{raw_whole, raw_application, raw_written, raw_symbol, raw_annotated, first_variable, raw_term, raw_terms}
 use Rattle.ev_syntax.specs.Names.{is_variable_name}
-use Rattle.ev_readback.specs.OnlyAnnotation.{variables_from, canonical_variables, AreParameters, TextAnnotatesBack}
+use Rattle.ev_print.proofs.Back.{text_reads_back}
+use Rattle.ev_readback.specs.OnlyAnnotation.{TextMeansItsTerm, variables_from, canonical_variables, AreParameters, TextAnnotatesBack}
 use Rattle.ev_readback.proofs.Meanings.{scope, canonical_scope, variable_text_is, variable_no_formula}
 use Rattle.ev_readback.proofs.BareTerms.{bare_term, own_fits, only_fits}
 use Rattle.ev_readback.proofs.Resolving.{resolves}
@@ -205,3 +206,11 @@ module _ (env : Env) (formed : IsWellFormed env) (frees : HasFreeNames env) (par
 pub annotates_back : TextAnnotatesBack
 annotates_back env formed frees params own C proper t A typed w expected asked =
     (annotates env formed frees params own C proper t A typed w expected asked, λ u a. only env formed frees params own C proper t A typed w expected u a)
+
+pub means_its_term : TextMeansItsTerm
+means_its_term env formed frees params own C proper t A typed few w =
+    record {
+      raw = raw_term env (length C) t;
+      reads = text_reads_back env formed frees C t A typed few w;
+      annotated = λ expected asked. annotates_back env formed frees params own C proper t A typed w expected asked;
+    }
