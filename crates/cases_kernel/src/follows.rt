@@ -1,7 +1,7 @@
 ghost use Rattle.std.specs.Prelude.{◌≤◌, IfOk, length};
 ghost use Rattle.std.specs.List.{AllByRecursion};
 
-use crate::fault::Fault;
+use cases_notation::fault::Fault;
 use ev_kernel::{BaseRule, Line, concludes, infers};
 use ev_terms::{NoMemory, Nums, TryCopy};
 use ev_typing::{Env, Sequent, Sequents};

@@ -1,23 +1,19 @@
 //! Cases of the base rules. Each line of the input is a case with commas between its fields: the rule's name, its arguments, and
-//! sequents with `;` between them, the conclusion last. The program writes `follows` or `fails` for each. With `concludes` before the
-//! name, it asks whether the only sequent is a conclusion of the rule without premises, and types are not looked at. Lines that begin
-//! with `--` it writes as they are.
+//! sequents with `;` between them, the conclusion last. Types and terms are in the notation of `cases_notation`. The program writes
+//! `follows` or `fails` for each. With `concludes` before the name, it asks whether the only sequent is a conclusion of the rule without
+//! premises, and types are not looked at. Lines that begin with `--` it writes as they are.
 #![tactic(auto)]
 
-mod fault;
 mod follows;
 mod reading;
 mod rules;
 
-use fault::Fault;
+use cases_notation::fault::Fault;
 use follows::{last_follows, only_concludes};
 use reading::read_sequents;
 use rules::read_rule;
 use std::alloc::Global;
 use std::io;
-
-/// The longest line, so that no term that is read nests deeper.
-const LINE_LIMIT: usize = 2_000;
 
 /// Whether the case's last sequent follows.
 fn answer(alloc: Global, case: &str, fields: &[&str], text: &str) -> Result<bool, Fault> {
@@ -32,9 +28,6 @@ fn answer(alloc: Global, case: &str, fields: &[&str], text: &str) -> Result<bool
 }
 
 fn answer_of_line(alloc: Global, line: &str) -> Result<bool, Fault> {
-    if line.len() > LINE_LIMIT {
-        return Err(Fault::NoCase);
-    }
     let fields: Vec<&str> = line.split(',').map(|field| field.trim()).collect(alloc)?;
     match fields.as_slice() {
         [case, fields @ .., text] => answer(alloc, *case, fields, *text),

@@ -1,5 +1,5 @@
-use crate::fault::Fault;
-use crate::reading::{read_term, read_terms, read_types};
+use cases_notation::fault::Fault;
+use cases_notation::reading::{read_tree, read_trees, read_types};
 use ev_kernel::BaseRule;
 use std::alloc::Global;
 
@@ -49,14 +49,14 @@ pub fn read_rule(alloc: Global, name: &str, fields: &[&str]) -> Result<BaseRule,
     match fields {
         [] => plain_rule(name).ok_or(Fault::NoCase),
         [term] => match name {
-            "AllE" => Ok(BaseRule::AllE(read_term(alloc, *term)?)),
-            "ExI" => Ok(BaseRule::ExI(read_term(alloc, *term)?)),
+            "AllE" => Ok(BaseRule::AllE(read_tree(alloc, *term)?)),
+            "ExI" => Ok(BaseRule::ExI(read_tree(alloc, *term)?)),
             _ => Err(Fault::NoCase),
         },
         [types, terms] => match name {
             "Inst" => {
                 let types = read_types(alloc, *types)?;
-                Ok(BaseRule::Inst(types, read_terms(alloc, *terms)?))
+                Ok(BaseRule::Inst(types, read_trees(alloc, *terms)?))
             }
             _ => Err(Fault::NoCase),
         },

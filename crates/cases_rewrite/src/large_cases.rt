@@ -1,9 +1,9 @@
 //! Large cases. `comb WIDTH LEVELS` is a tree of so many levels, each a binder over a node with so many leaves before the next level.
 //! All leaves are one variable from outside, whose number rises by one under each binder.
-use crate::fault::Fault;
-use crate::text::Text;
 use crate::words::two_numbers;
-use crate::writing::write_tree;
+use cases_notation::fault::Fault;
+use cases_notation::text::Text;
+use cases_notation::writing::{write_extent, write_tree};
 use ev_rewrite::{match_pattern, node_at, path_types, replace_at};
 use ev_terms::{
     Name, Place, Sym, Tree, Trees, TryCopy, Ty, Tys, extent, loose, make_lit, make_node, make_var,
@@ -52,12 +52,6 @@ fn innermost(alloc: Global, width: u32, levels: u32) -> Result<Place, Fault> {
     Ok(place)
 }
 
-fn write_extent(out: &mut Text, tree: &Tree) {
-    let extent = extent(tree);
-    out.named("size", extent.size);
-    out.named("depth", extent.depth);
-}
-
 fn counts(text: &str) -> Result<(u32, u32), Fault> {
     let (width, levels) = two_numbers(text)?;
     if width <= LIMIT && levels <= LIMIT {
@@ -72,7 +66,7 @@ pub fn match_comb(alloc: Global, out: &mut Text, text: &str) -> Result<(), Fault
     let (width, levels) = counts(text)?;
     let pattern = comb(alloc, width, levels, 0)?;
     let tree = comb(alloc, width, levels, 5)?;
-    write_extent(out, &tree);
+    write_extent(out, extent(&tree));
     if loose(&pattern) > 1 {
         return Err(Fault::NoCase);
     }
@@ -89,13 +83,13 @@ pub fn match_comb(alloc: Global, out: &mut Text, text: &str) -> Result<(), Fault
     Ok(())
 }
 
-/// How many types are listed, as far as that many.
-fn count_up_to(types: &Tys, most: usize) -> u64 {
-    let mut count: u64 = 0;
-    for i in 0..most {
-        if types.get(i).is_some() {
-            count = count.saturating_add(1);
-        }
+/// How many types there are.
+fn count_of(types: &Tys) -> u64 {
+    let mut count = 0u64;
+    let mut left = types;
+    while let Tys::More(_, rest) = left {
+        count = count.saturating_add(1);
+        left = rest.get();
     }
     count
 }
@@ -109,7 +103,7 @@ pub fn replace_comb(alloc: Global, out: &mut Text, text: &str) -> Result<(), Fau
     let Some(replaced) = replace_at(alloc, &tree, &place, &new)? else {
         return Err(Fault::NoCase);
     };
-    write_extent(out, &replaced);
+    write_extent(out, extent(&replaced));
     out.label("there");
     if let Some(node) = node_at(&replaced, &place) {
         write_tree(alloc, out, node);
@@ -125,7 +119,7 @@ pub fn replace_comb(alloc: Global, out: &mut Text, text: &str) -> Result<(), Fau
     };
     out.test("back", same(&back, &tree));
     if let Some(types) = path_types(alloc, &tree, &place)? {
-        out.named("under", count_up_to(&types, 1_000));
+        out.named("under", count_of(&types));
     }
     Ok(())
 }

@@ -2,21 +2,16 @@
 //! what the library answers, a line for each case. Lines that begin with `--` it writes as they are.
 #![tactic(auto)]
 
-mod fault;
 mod large_cases;
 mod match_cases;
 mod place_cases;
-mod reading;
-mod symbols;
-mod text;
 mod words;
-mod writing;
 
-use fault::Fault;
+use cases_notation::fault::Fault;
+use cases_notation::text::Text;
+use cases_notation::words::fields_of;
 use std::alloc::Global;
 use std::io;
-use text::Text;
-use words::fields_of;
 
 /// Writes what the library answers.
 fn answer(alloc: Global, out: &mut Text, case: &str, fields: &[&str]) -> Result<(), Fault> {

@@ -1,9 +1,9 @@
 //! Cases of matching. What is found is told by parameter and by variable, the outermost first, with `-` where the pattern tells nothing.
-use crate::fault::Fault;
-use crate::reading::read_tree;
-use crate::text::Text;
 use crate::words::two_numbers;
-use crate::writing::{write_tree, write_type};
+use cases_notation::fault::Fault;
+use cases_notation::reading::read_tree;
+use cases_notation::text::Text;
+use cases_notation::writing::{write_tree, write_type};
 use ev_rewrite::{Inst, match_pattern};
 use ev_terms::loose;
 use std::alloc::Global;

@@ -1,9 +1,9 @@
 //! Cases of places: the node at one, the types of the variables bound on the way, and a new node there.
-use crate::fault::Fault;
-use crate::reading::read_tree;
-use crate::text::Text;
 use crate::words::place_of;
-use crate::writing::{write_tree, write_types};
+use cases_notation::fault::Fault;
+use cases_notation::reading::read_tree;
+use cases_notation::text::Text;
+use cases_notation::writing::{write_tree, write_types};
 use ev_rewrite::{node_at, path_types, replace_at};
 use ev_terms::{Tree, Tys};
 use std::alloc::Global;
