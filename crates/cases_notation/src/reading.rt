@@ -248,7 +248,7 @@ pub fn read_types(alloc: Global, text: &str) -> Result<Tys, Fault> {
 /// The terms of a text, which has no types but theirs.
 pub fn read_trees(alloc: Global, text: &str) -> Result<Trees, Fault> {
     let Items { types, trees } = read_items(alloc, text)?;
-    match types {
+    match &types {
         Tys::Empty => Ok(trees),
         Tys::More(_, _) => Err(Fault::NoCase),
     }

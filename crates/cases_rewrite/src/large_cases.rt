@@ -5,6 +5,7 @@ use cases_notation::fault::Fault;
 use cases_notation::text::Text;
 use cases_notation::writing::{write_extent, write_tree};
 use ev_rewrite::{match_pattern, node_at, path_types, replace_at};
+use ev_terms::symbols::FOR_ALL;
 use ev_terms::{
     Name, Place, Sym, Tree, Trees, TryCopy, Ty, Tys, extent, loose, make_lit, make_node, make_var,
     same,
@@ -13,9 +14,6 @@ use std::alloc::Global;
 
 /// The greatest width, and the greatest number of levels.
 const LIMIT: u32 = 1_000;
-
-/// The row of `!` in the table of base symbols.
-const FOR_ALL: u16 = 7;
 
 fn level(alloc: Global, width: u32, leaf: u32, inner: Tree) -> Result<Tree, Fault> {
     let mut children = Trees::new(alloc);

@@ -19,11 +19,12 @@ fn write_node(alloc: Global, out: &mut Text, found: Option<&Tree>) {
 pub fn look(alloc: Global, out: &mut Text, place: &str, tree: &str) -> Result<(), Fault> {
     let (place, tree) = (place_of(alloc, place)?, read_tree(alloc, tree)?);
     write_node(alloc, out, node_at(&tree, &place));
-    match path_types(alloc, &tree, &place)? {
+    let under = path_types(alloc, &tree, &place)?;
+    match &under {
         Some(Tys::Empty) => out.label("under nothing"),
         Some(types) => {
             out.label("under");
-            write_types(alloc, out, &types);
+            write_types(alloc, out, types);
         }
         None => out.label("no way"),
     }

@@ -4,7 +4,7 @@ use cases_notation::reading::{read_tree, read_trees};
 use cases_notation::text::Text;
 use cases_notation::words::{number, place};
 use cases_notation::writing::{write_extent, write_tree, write_types};
-use ev_terms::types::{FOR_ALL, FOR_SOME, SET_FORMER};
+use ev_terms::symbols::{FOR_ALL, FOR_SOME, SET};
 use ev_terms::{
     Bounds, NoMemory, Same, Sym, Tree, TryCopy, binds, bounds_of, extent, loose, same, same_all,
     shift_fits, substitute_fits, trees_extent,
@@ -118,7 +118,7 @@ fn bound(alloc: Global, out: &mut Text, text: &str) -> Result<(), Fault> {
 fn binders(out: &mut Text) {
     out.number(u64::from(FOR_ALL));
     out.number(u64::from(FOR_SOME));
-    out.number(u64::from(SET_FORMER));
+    out.number(u64::from(SET));
 }
 
 fn same_trees(alloc: Global, out: &mut Text, first: &str, second: &str) -> Result<(), Fault> {

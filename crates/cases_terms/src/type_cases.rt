@@ -1,8 +1,11 @@
 //! Cases of types.
+ghost use Rattle.std.specs.Prelude.{◌≤◌, length, IfOk};
+ghost use Rattle.ev_terms.specs.Types.{type_list};
+
 use cases_notation::fault::Fault;
 use cases_notation::reading::{read_type, read_types};
 use cases_notation::text::Text;
-use cases_notation::words::place;
+use cases_notation::words::{number, place};
 use cases_notation::writing::{write_extent, write_optional, write_type, write_types};
 use ev_terms::{
     NoMemory, Same, TryCopy, Ty, Tys, instantiate_list, type_extent, type_params, types_extent,
@@ -85,12 +88,48 @@ fn all_same(alloc: Global, out: &mut Text, first: &str, second: &str) -> Result<
     Ok(())
 }
 
+/// So many parameters in a vector, of which the last is another one.
+fn many_params(alloc: Global, count: u32, last: u32) -> Result<Vec<Ty>, NoMemory> {
+    let mut types = Vec::new(alloc);
+    for i in 1..count {
+        types.push(Ty::Param(i))?;
+    }
+    types.push(Ty::Param(last))?;
+    Ok(types)
+}
+
+fn many_types(alloc: Global, count: u32, last: u32) -> Result<Tys, NoMemory>
+    ensures { IfOk result (λ types. length (type_list types) ≤ usize.MAX) }
+{
+    Tys::from_vec(alloc, many_params(alloc, count, last)?)
+}
+
+/// A list of so many types, the last one of which is ?0, and the same list with INT for ?0.
+fn many(alloc: Global, out: &mut Text, count: &str) -> Result<(), Fault> {
+    let count = number(count)?;
+    let last = (count as usize).saturating_sub(1);
+    let mut types = many_types(alloc, count, 0)?;
+    out.named("length", types.len() as u64);
+    write_optional(alloc, out, types.get(last));
+    write_optional(alloc, out, types.get(count as usize));
+    write_measures_of_all(out, &types);
+    out.test("same", types.same(&many_types(alloc, count, 0)?));
+    out.test("same", types.same(&many_types(alloc, count, 1)?));
+    let instances = instantiate_list(alloc, &types, &Tys::one(alloc, Ty::Int)?)?;
+    write_optional(alloc, out, instances.get(last));
+    out.test("same", types.same(&instances));
+    types.push(alloc, Ty::Bool)?;
+    write_optional(alloc, out, types.get(count as usize));
+    Ok(())
+}
+
 fn answer_one(alloc: Global, out: &mut Text, case: &str, text: &str) -> Result<(), Fault> {
     match case {
         "copied" => copied(alloc, out, text),
         "list" => copied_list(alloc, out, text),
         "extent" => extent(alloc, out, text),
         "extents" => extent_of_all(alloc, out, text),
+        "many" => many(alloc, out, text),
         _ => Err(Fault::NoCase),
     }
 }

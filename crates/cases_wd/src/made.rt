@@ -4,12 +4,10 @@ use crate::samples::Setting;
 use ev_forms::{
     Binder, Connective, Relation, make_bound, make_joined, make_negation, make_related,
 };
+use ev_terms::symbols::OVER;
 use ev_terms::{NoMemory, Sym, Tree, Trees, TryCopy, Ty, Tys, make_lit, make_node, make_var, same};
 use ev_wd::well_defined;
 use std::alloc::Global;
-
-/// The row of `/` in the table of base symbols, from 0.
-const DIVIDE: u16 = 22;
 
 /// `FIRST or P`, where P is a predicate, joined so many times with itself.
 pub fn doubled(alloc: Global, count: u32, first: Tree, tree: Tree) -> Result<Tree, NoMemory> {
@@ -26,7 +24,7 @@ fn quotient(alloc: Global, x: u32) -> Result<Tree, NoMemory> {
     let mut children = Trees::new(alloc);
     children.push(alloc, make_lit(alloc, 1)?)?;
     children.push(alloc, make_var(alloc, x)?)?;
-    let divided = make_node(alloc, Sym::Base(DIVIDE), Tys::Empty, children)?;
+    let divided = make_node(alloc, Sym::Base(OVER), Tys::Empty, children)?;
     make_related(
         alloc,
         Relation::Equal,

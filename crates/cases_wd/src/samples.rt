@@ -8,6 +8,7 @@ ghost use Rattle.cases_wd.specs.Samples.{cons_fields, list_decl, list_env, is_no
 
 use crate::refusals::Refusal;
 use ev_forms::{Relation, make_negation, make_related};
+use ev_terms::symbols::EMPTY;
 use ev_terms::{Name, NoMemory, Shared, Sym, Tree, Trees, Ty, Tys, make_node, make_var};
 use ev_typing::{Con, Cons, DataDecl, Entry, Env, Signature, Var, Vars};
 use std::alloc::Global;
@@ -153,9 +154,6 @@ fn env_of_lists(alloc: Global) -> Result<Env, NoMemory>
     env.add(alloc, Entry::Data(decl))?;
     Ok(env)
 }
-
-/// The row of `{}` in the table of base symbols, from 0.
-const EMPTY: u16 = 28;
 
 /// `not S = {}`, for S the variable 0, a set of members of the type parameter 0.
 fn is_not_empty(alloc: Global) -> Result<Tree, NoMemory>

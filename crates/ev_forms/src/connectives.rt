@@ -5,6 +5,7 @@ ghost use Rattle.ev_terms.specs.declared.types.Tys.{Empty};
 ghost use Rattle.ev_forms.specs.Forms.{truth, falsity, neg};
 ghost use Rattle.ev_forms.specs.Connectives.{joined};
 
+use ev_terms::symbols::{AND, FALSE, IFF, IMPLIES, NOT, OR, TRUE};
 use ev_terms::{NoMemory, Sym, Tree, Trees, Tys, make_node};
 use std::alloc::Global;
 
@@ -17,21 +18,14 @@ pub enum Connective {
     Iff,
 }
 
-/// The rows of the propositional symbols in the table of base symbols, from 0.
-const TRUE: u16 = 0;
-
-const FALSE: u16 = 1;
-
-const NOT: u16 = 2;
-
 fn row_of(connective: Connective) -> u16
     ensures { (P Q : Term) → node (Base result) Empty (cons P (cons Q nil)) ≡ joined connective P Q }
 {
     match connective {
-        Connective::And => 3,
-        Connective::Or => 4,
-        Connective::Implies => 5,
-        Connective::Iff => 6,
+        Connective::And => AND,
+        Connective::Or => OR,
+        Connective::Implies => IMPLIES,
+        Connective::Iff => IFF,
     }
 }
 

@@ -11,7 +11,8 @@ ghost use Rattle.ev_forms.specs.Forms.{neg, bool_of, bool_true, equation};
 ghost use Rattle.ev_forms.specs.Binders.{bound, related, equated};
 
 use crate::connectives::{Connective, base_parts, is_leaf, joined_parts, pair_of};
-use ev_terms::{NoMemory, Shared, Sym, Tree, Trees, Ty, Tys, make_node};
+use ev_terms::symbols::{BOOL, EQUAL, FOR_ALL, FOR_SOME, IN, NOT, SET, TRUE_VALUE};
+use ev_terms::{NoMemory, Sym, Tree, Trees, Ty, Tys, make_node};
 use std::alloc::Global;
 
 /// A symbol that binds one variable in its child: `!`, `#` or the set former.
@@ -29,20 +30,13 @@ pub enum Relation {
     In,
 }
 
-/// The rows of these symbols in the table of base symbols, from 0.
-const NOT: u16 = 2;
-
-const TRUE_VALUE: u16 = 15;
-
-const BOOL: u16 = 17;
-
 fn row_of_binder(binder: Binder) -> u16
     ensures { (A : Ty) (P : Term) → node (Base result) (at_type A) (cons P nil) ≡ bound binder A P }
 {
     match binder {
-        Binder::ForAll => 7,
-        Binder::ForSome => 8,
-        Binder::SetOf => 29,
+        Binder::ForAll => FOR_ALL,
+        Binder::ForSome => FOR_SOME,
+        Binder::SetOf => SET,
     }
 }
 
@@ -50,18 +44,9 @@ fn row_of_relation(relation: Relation) -> u16
     ensures { (A : Ty) (s t : Term) → node (Base result) (at_type A) (cons s (cons t nil)) ≡ related relation A s t }
 {
     match relation {
-        Relation::Equal => 9,
-        Relation::In => 10,
+        Relation::Equal => EQUAL,
+        Relation::In => IN,
     }
-}
-
-/// One type argument.
-#[tactic(auto, using(crate::proofs::FormViews::one_type))]
-fn make_at_type(alloc: Global, ty: Ty) -> Result<Tys, NoMemory>
-    ensures { IfOk result (λ As. As ≡ at_type ty) }
-{
-    let ty = Shared::new(alloc, ty)?;
-    Ok(Tys::More(ty, Shared::new(alloc, Tys::Empty)?))
 }
 
 /// `!x. P`, `#x. P` or `{x | P}` with x of the type. The variable 0 of P is the one that is bound.
@@ -70,7 +55,7 @@ pub fn make_bound(alloc: Global, binder: Binder, ty: Ty, body: Tree) -> Result<T
 {
     let mut children = Trees::new(alloc);
     children.push(alloc, body)?;
-    let types = make_at_type(alloc, ty)?;
+    let types = Tys::one(alloc, ty)?;
     make_node(alloc, Sym::Base(row_of_binder(binder)), types, children)
 }
 
@@ -87,7 +72,7 @@ pub fn make_related(
     let mut children = Trees::new(alloc);
     children.push(alloc, left)?;
     children.push(alloc, right)?;
-    let types = make_at_type(alloc, ty)?;
+    let types = Tys::one(alloc, ty)?;
     make_node(alloc, Sym::Base(row_of_relation(relation)), types, children)
 }
 

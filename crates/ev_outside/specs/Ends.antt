@@ -1,4 +1,4 @@
--- What a call does to the bytes of a source or a sink, and to its count of faults.
+-- What a call does to the bytes of a source or a sink, and to its counts of faults and of refused writes.
 use Rattle.std.specs.Prelude.{◌≡◌, ◌↔◌, ℕ, ◌+◌, ◌-◌, ◌^◌, ◌<◌, ◌≤◌, min, List, [], Option, Some, IfSome, length, take}
 use Rattle.std.specs.Io.KnownBytes.{Appends, Consumes}
 

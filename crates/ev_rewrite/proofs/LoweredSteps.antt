@@ -7,7 +7,7 @@ use Rattle.ev_terms.specs.declared.types.Tys.{Tys}
 use Rattle.ev_terms.specs.Term.{Term, Terms, var, lit, node, nil, cons, terms, var_of, sym_of, term_list, terms-term_list}
 use Rattle.ev_terms.specs.Symbols.{binds}
 use Rattle.ev_terms.specs.Measures.{loose}
-use Rattle.ev_terms.specs.Subst.{shift_var, shift, shifts}
+use Rattle.ev_terms.specs.Substitution.{shift_var, shift, shifts}
 use Rattle.ev_terms.proofs.ListLaws.{shift_closed}
 use Rattle.ev_terms.proofs.Laws.{shift-zero}
 use Rattle.ev_rewrite.specs.inner.Lowered.{IsLowered, AreLowered}

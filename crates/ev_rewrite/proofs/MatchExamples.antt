@@ -5,7 +5,7 @@ use Rattle.std.proofs.lemmas.Bool.Decides.{nat_tests}
 use Rattle.ev_terms.specs.declared.types.Ty.{Ty, Int}
 use Rattle.ev_terms.specs.Symbols.{binds}
 use Rattle.ev_terms.specs.Term.{Term, var, lit, node}
-use Rattle.ev_terms.specs.Subst.{shift_var}
+use Rattle.ev_terms.specs.Substitution.{shift_var}
 use Rattle.ev_forms.specs.Forms.{plus, forall, less}
 use Rattle.ev_typing.specs.Occurs.{mentions_param, has_var}
 use Rattle.ev_rewrite.specs.declared.matching.Inst.{Inst}

@@ -11,7 +11,7 @@ use Rattle.ev_terms.specs.declared.types.Tys.{Tys, Empty}
 use Rattle.ev_terms.specs.Types.{pow, prod, more}
 use Rattle.ev_terms.specs.Term.{Term, Terms, var, lit, node, nil, cons}
 use Rattle.ev_terms.specs.Symbols.{binds}
-use Rattle.ev_terms.specs.Subst.{shift, shift_var, lift, lifts, inst, insts, entry, type_inst, types_inst, retype, retypes}
+use Rattle.ev_terms.specs.Substitution.{shift, shift_var, lift, lifts, inst, insts, entry, type_inst, types_inst, retype, retypes}
 use Rattle.ev_terms.proofs.Subst.{inst-inst, shift-inst}
 use Rattle.ev_typing.specs.Occurs.{has_param, have_param, mentions_param, mention_param, has_var, have_var}
 use Rattle.ev_rewrite.proofs.TypeParts.{pow_part, left_part, right_part, data_part, head_part, tail_part}

@@ -13,7 +13,7 @@ use Rattle.ev_terms.specs.Types.{pow, prod, more, Pow-pow, Prod-prod, More-more}
 use Rattle.ev_terms.specs.Term.{Term, Terms, var, lit, node, nil, cons, terms, var_of, sym_of}
 use Rattle.ev_terms.specs.Symbols.{binds}
 use Rattle.ev_terms.specs.Measures.{loose, all_loose}
-use Rattle.ev_terms.specs.Subst.{shift, lifts, inst, insts, entry, type_at, type_inst, types_inst, retype, retypes}
+use Rattle.ev_terms.specs.Substitution.{shift, lifts, inst, insts, entry, type_at, type_inst, types_inst, retype, retypes}
 use Rattle.ev_terms.proofs.Laws.{lifts-below, lifts-past, lifts-lifts, insts-id}
 use Rattle.ev_terms.proofs.ListLaws.{subst-shift, insts_below}
 use Rattle.ev_terms.proofs.Children.{drop_at, drop_all}

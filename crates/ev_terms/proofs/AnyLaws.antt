@@ -11,7 +11,7 @@ use Rattle.ev_terms.specs.Types.{pow, prod, more, type_list}
 use Rattle.ev_terms.specs.Term.{Term, Terms, var, lit, node, nil, cons}
 use Rattle.ev_terms.specs.Symbols.{binds}
 use Rattle.ev_terms.specs.Measures.{loose, type_params, types_params, params, all_params}
-use Rattle.ev_terms.specs.Subst.{shift_var, shift, shifts, lifts, inst, entry, subst, fill, type_inst, types_inst, retype, retypes, instance, type_at}
+use Rattle.ev_terms.specs.Substitution.{shift_var, shift, shifts, lifts, inst, entry, substitute, fill, type_inst, types_inst, retype, retypes, instance, type_at}
 use Rattle.ev_terms.proofs.Subst.{inst-inst, shift-inst}
 use Rattle.ev_terms.proofs.Laws.{lifts-past, entry-get, entry-past}
 use Rattle.ev_terms.proofs.ListLaws.{inst_below, inst_closed, retype-inst, retype-entry, retype-retype, type_inst-type_inst}
@@ -55,7 +55,7 @@ entry_opened (t ∷ ts) us vs (suc i) =
     let e : shift_var (suc (length ts)) (length us) (suc i) ≡ suc (shift_var (length ts) (length us) i) = grind (arith, nat_tests) in
     ap (entry (t ∷ (ts ++ (us ++ vs)))) e ∙ entry_opened ts us vs i
 
-pub subst-of_shift : (t : Term) (ts us vs : List Term) → subst (shift t (length ts) (length us)) (ts ++ (us ++ vs)) ≡ subst t (ts ++ vs)
+pub subst-of_shift : (t : Term) (ts us vs : List Term) → substitute (shift t (length ts) (length us)) (ts ++ (us ++ vs)) ≡ substitute t (ts ++ vs)
 subst-of_shift t ts us vs =
     inst-of_shift (entry (ts ++ (us ++ vs))) t (length ts) (length us) ∙ ap (λ τ. inst τ t) (fun_ext (entry_opened ts us vs))
 
@@ -65,12 +65,12 @@ inst_entry σ [] i h = absurd (omega arith)
 inst_entry σ (t ∷ ts) zero h = refl
 inst_entry σ (t ∷ ts) (suc i) h = inst_entry σ ts i (omega arith)
 
-pub inst-of_subst : (σ : ℕ → Term) (t : Term) (ts : List Term) → loose t ≤ length ts → inst σ (subst t ts) ≡ subst t (map (inst σ) ts)
+pub inst-of_subst : (σ : ℕ → Term) (t : Term) (ts : List Term) → loose t ≤ length ts → inst σ (substitute t ts) ≡ substitute t (map (inst σ) ts)
 inst-of_subst σ t ts h =
     inst-inst σ (entry ts) t
     ∙ inst_below t (λ i. inst σ (entry ts i)) (entry (map (inst σ) ts)) (λ i k. inst_entry σ ts i (omega arith))
 
-pub subst-closed : (t : Term) (ts : List Term) → loose t ≡ 0 → subst t ts ≡ t
+pub subst-closed : (t : Term) (ts : List Term) → loose t ≡ 0 → substitute t ts ≡ t
 subst-closed t ts h = inst_closed t 0 (entry ts) (omega arith)
 
 pub entry_given : (ts : List Term) (i : ℕ) (t : Term) → slice_get ts i ≡ Some t → entry ts i ≡ t
@@ -100,7 +100,7 @@ fill_past ts i =
 pub inst-of_fill : (σ : ℕ → Term) (t : Term) (ts : List Term) → loose t ≤ length ts → inst σ (fill t ts) ≡ fill t (map (inst σ) ts)
 inst-of_fill σ t ts h =
     let l : length (reverse ts) ≡ length ts = length-reverse ts in
-    inst-of_subst σ t (reverse ts) (omega arith) ∙ ap (subst t) (map_reverse (inst σ) ts)
+    inst-of_subst σ t (reverse ts) (omega arith) ∙ ap (substitute t) (map_reverse (inst σ) ts)
 
 pub shift-of_fill : (t : Term) (ts : List Term) (from by : ℕ) → loose t ≤ length ts →
     shift (fill t ts) from by ≡ fill t (map (λ u. shift u from by) ts)
@@ -112,7 +112,7 @@ pub retype-of_fill : (θ : ℕ → Ty) (t : Term) (ts : List Term) → retype θ
 retype-of_fill θ t ts =
     retype-inst θ (entry (reverse ts)) t
     ∙ ap (λ σ. inst σ (retype θ t)) (fun_ext (retype-entry θ (reverse ts)))
-    ∙ ap (subst (retype θ t)) (map_reverse (retype θ) ts)
+    ∙ ap (substitute (retype θ t)) (map_reverse (retype θ) ts)
 
 -- A type instance reads its types below the parameters alone.
 mutual

@@ -7,6 +7,7 @@ use Rattle.ev_terms.specs.Types.{Pow-pow, Prod-prod, More-more}
 use Rattle.ev_terms.specs.declared.types.Ty.TheVariants.{Pow, Prod}
 use Rattle.ev_terms.specs.declared.extents.Extent.{Extent}
 use Rattle.ev_terms.specs.declared.types.Tys.TheVariants.{More}
+use Rattle.ev_terms.proofs.TypeSteps.{before_rest, type_list-More, type_inst-Pow, type_inst-Prod, types_inst-More}
 use Rattle.ev_terms.specs.Measures.{capped, type_params, types_params, type_size, types_size, type_depth, types_depth, depth, depths, highest, all_highest}
 
 -- The measures by which a walk over a term and over its children falls.
@@ -69,15 +70,6 @@ type_params-Prod a b = ap type_params (Prod-prod a b)
 pub types_params-More : (a : Ty) (ts : Tys) → types_params (More a ts) ≡ max (type_params a) (types_params ts)
 types_params-More a ts = ap types_params (More-more a ts)
 
-pub capped-add : (a b : ℕ) → capped (capped a + capped b) ≡ capped (a + b)
-capped-add a b = omega arith
-
-pub capped-one_add : (a : ℕ) → capped (1 + capped a) ≡ capped (1 + a)
-capped-one_add a = omega arith
-
-pub max-capped : (a b : ℕ) → max (capped a) (capped b) ≡ capped (max a b)
-max-capped a b = omega arith
-
 -- the extent of a type from those of its parts
 extent_by : (m n m' n' : ℕ) → m ≡ m' → n ≡ n' → ◌≡◌ {A = Extent} (record { size = m; depth = n }) (record { size = m'; depth = n' })
 extent_by m n m' n' p q = cc
@@ -92,14 +84,39 @@ extent_prod a b =
     let d : type_depth (Prod a b) ≡ 1 + max (type_depth a) (type_depth b) = ap type_depth (Prod-prod a b) in
     extent_by _ _ _ _ (omega arith) (omega arith)
 
-pub extent_more : (a : Ty) (ts : Tys) →
-    ◌≡◌ {A = Extent} (record {
-      size = capped (capped (type_size a) + capped (types_size ts));
-      depth = max (capped (type_depth a)) (capped (types_depth ts));
-    }) (record { size = capped (types_size (More a ts)); depth = capped (types_depth (More a ts)) })
-extent_more a ts =
-    let s : types_size (More a ts) ≡ type_size a + types_size ts = ap types_size (More-more a ts) in
-    let d : types_depth (More a ts) ≡ max (type_depth a) (types_depth ts) = ap types_depth (More-more a ts) in
-    extent_by _ _ _ _ (omega arith) (omega arith)
+-- A step along a list of types.
+pub size_step : (left rest got : Tys) (a : Ty) (n : ℕ) → left ≡ More a rest → got ≡ rest → types_size left ≤ n → types_size got ≤ n
+size_step left rest got a n l g h =
+    let e : types_size left ≡ type_size a + types_size got = ap types_size (before_rest left rest got a l g) in
+    omega (arith, e, h)
+
+pub extent_step : (left rest got : Tys) (a x : Ty) (all one new : Extent) (n d : ℕ) → left ≡ More a rest → got ≡ rest → x ≡ a →
+    one ≡ record { size = capped (type_size x); depth = capped (type_depth x) } →
+    new ≡ record { size = capped (all.size + one.size); depth = max all.depth one.depth } →
+    all.size ≤ 18446744073709551615 → capped (all.size + types_size left) ≡ capped n → max all.depth (capped (types_depth left)) ≡ capped d →
+    (new.size ≤ 18446744073709551615) × ((capped (new.size + types_size got) ≡ capped n) × (max new.depth (capped (types_depth got)) ≡ capped d))
+extent_step left rest got a x all one new n d l g e o w fits s t =
+    let sizes : types_size left ≡ type_size a + types_size got = ap types_size (before_rest left rest got a l g) in
+    let depths : types_depth left ≡ max (type_depth a) (types_depth got) = ap types_depth (before_rest left rest got a l g) in
+    let one_size : one.size ≡ capped (type_size a) = ap (λ y. y.size) o ∙ ap (λ y. capped (type_size y)) e in
+    let one_depth : one.depth ≡ capped (type_depth a) = ap (λ y. y.depth) o ∙ ap (λ y. capped (type_depth y)) e in
+    let new_size : new.size ≡ capped (all.size + one.size) = ap (λ y. y.size) w in
+    let new_depth : new.depth ≡ max all.depth one.depth = ap (λ y. y.depth) w in
+    (omega (arith, new_size), (omega (arith, sizes, one_size, new_size, fits, s), omega (arith, depths, one_depth, new_depth, t)))
+
+pub params_step : (left rest got : Tys) (a x : Ty) (all one new n : ℕ) → left ≡ More a rest → got ≡ rest → x ≡ a → one ≡ type_params x → new ≡ max one all →
+    max all (types_params left) ≡ n → max new (types_params got) ≡ n
+params_step left rest got a x all one new n l g e o w h =
+    let all_params : types_params left ≡ max (type_params a) (types_params got) = ap types_params (before_rest left rest got a l g) in
+    let one_params : one ≡ type_params a = o ∙ ap type_params e in
+    omega (arith, all_params, one_params, w, h)
 
 pub ruleset types_walk = (type_params-Pow, type_params-Prod, types_params-More, type_size-Pow, type_size-Prod, types_size-More, type_depth-Pow, type_depth-Prod, types_depth-More)
+
+pub second_size : (p a b b' : Ty) → p ≡ Prod a b → b' ≡ b → type_size b' < type_size p
+second_size p a b b' e f =
+    let s : type_size p ≡ 1 + (type_size a + type_size b) = ap type_size e ∙ type_size-Prod a b in
+    let r : type_size b' ≡ type_size b = ap type_size f in
+    omega (arith, s, r)
+
+pub ruleset instance_walk = (type_list-More, type_inst-Pow, type_inst-Prod, types_inst-More, type_size-Pow, type_size-Prod, types_size-More)

@@ -8,7 +8,7 @@ use Rattle.ev_terms.specs.Types.{pow, prod, more}
 use Rattle.ev_terms.specs.Term.{Term, Terms, var, lit, node, nil, cons}
 use Rattle.ev_terms.specs.Symbols.{binds}
 use Rattle.ev_terms.specs.Measures.{type_size, types_size, type_depth, types_depth, type_params, types_params, size, sizes, depth, depths, loose, all_loose, highest, all_highest, params, all_params}
-use Rattle.ev_terms.specs.Subst.{lifts, inst, insts, type_inst, types_inst, retype, retypes}
+use Rattle.ev_terms.specs.Substitution.{lifts, inst, insts, type_inst, types_inst, retype, retypes}
 use Rattle.ev_terms.proofs.ListLaws.{size-shift}
 use Rattle.ev_terms.proofs.AnyLaws.{params-shift}
 

@@ -5,7 +5,7 @@ use Rattle.ev_terms.specs.declared.types.Tys.{Tys}
 use Rattle.ev_terms.specs.Types.{type_list}
 use Rattle.ev_terms.specs.Term.{Term, var, terms}
 use Rattle.ev_terms.specs.Measures.{loose, all_loose, size, depth, depths, highest, params, type_size, type_depth, type_params}
-use Rattle.ev_terms.specs.Subst.{shift_var, shift, lifts, inst, entry, subst, fill, type_inst, types_inst, type_at, retype, instance}
+use Rattle.ev_terms.specs.Substitution.{shift_var, shift, lifts, inst, entry, substitute, fill, type_inst, types_inst, type_at, retype, instance}
 
 -- Shifts.
 
@@ -60,8 +60,8 @@ abbrev pub EntryPastFalls : Type 0
 EntryPastFalls = (ts : List Term) (i : ℕ) → length ts ≤ i → entry ts i ≡ var (i - length ts)
 
 -- t[ts][us] is t[ts[us], us]
-abbrev pub SubstsCompose : Type 0
-SubstsCompose = (t : Term) (ts us : List Term) → subst (subst t ts) us ≡ subst t (map (λ u. subst u us) ts ++ us)
+abbrev pub SubstitutionsCompose : Type 0
+SubstitutionsCompose = (t : Term) (ts us : List Term) → substitute (substitute t ts) us ≡ substitute t (map (λ u. substitute u us) ts ++ us)
 
 -- Shift and substitution.
 
@@ -78,17 +78,17 @@ abbrev pub InstPastBinders : Type 0
 InstPastBinders = (n : ℕ) (σ : ℕ → Term) (t : Term) → inst (lifts n σ) (shift t 0 n) ≡ shift (inst σ t) 0 n
 
 -- the shift of t[ts]
-abbrev pub ShiftOfSubst : Type 0
-ShiftOfSubst = (t : Term) (ts : List Term) (from by : ℕ) →
-    shift (subst t ts) from by ≡ subst (shift t (from + length ts) by) (map (λ u. shift u from by) ts)
+abbrev pub ShiftOfSubstitution : Type 0
+ShiftOfSubstitution = (t : Term) (ts : List Term) (from by : ℕ) →
+    shift (substitute t ts) from by ≡ substitute (shift t (from + length ts) by) (map (λ u. shift u from by) ts)
 
 -- entries for variables that a shift has opened are dropped
-abbrev pub SubstOfShift : Type 0
-SubstOfShift = (t : Term) (ts us vs : List Term) → subst (shift t (length ts) (length us)) (ts ++ (us ++ vs)) ≡ subst t (ts ++ vs)
+abbrev pub SubstitutionOfShift : Type 0
+SubstitutionOfShift = (t : Term) (ts us vs : List Term) → substitute (shift t (length ts) (length us)) (ts ++ (us ++ vs)) ≡ substitute t (ts ++ vs)
 
 -- a substitution undoes the shift that made room for it
-abbrev pub SubstUndoesShift : Type 0
-SubstUndoesShift = (t : Term) (ts : List Term) → subst (shift t 0 (length ts)) ts ≡ t
+abbrev pub SubstitutionUndoesShift : Type 0
+SubstitutionUndoesShift = (t : Term) (ts : List Term) → substitute (shift t 0 (length ts)) ts ≡ t
 
 -- Arguments: the first one stands for the outermost variable.
 
@@ -101,8 +101,8 @@ abbrev pub FillPastFalls : Type 0
 FillPastFalls = (ts : List Term) (i : ℕ) → fill (var (length ts + i)) ts ≡ var i
 
 -- where no other variable is loose, a substitution goes into the entries
-abbrev pub InstOfSubst : Type 0
-InstOfSubst = (σ : ℕ → Term) (t : Term) (ts : List Term) → loose t ≤ length ts → inst σ (subst t ts) ≡ subst t (map (inst σ) ts)
+abbrev pub InstOfSubstitution : Type 0
+InstOfSubstitution = (σ : ℕ → Term) (t : Term) (ts : List Term) → loose t ≤ length ts → inst σ (substitute t ts) ≡ substitute t (map (inst σ) ts)
 
 -- and into the arguments
 abbrev pub InstOfFill : Type 0
@@ -127,8 +127,8 @@ abbrev pub RetypeOfInst : Type 0
 RetypeOfInst = (θ : ℕ → Ty) (σ : ℕ → Term) (t : Term) → retype θ (inst σ t) ≡ inst (λ i. retype θ (σ i)) (retype θ t)
 
 -- t[ts]<As> is t<As>[ts<As>]
-abbrev pub InstanceOfSubst : Type 0
-InstanceOfSubst = (t : Term) (ts : List Term) (types : Tys) → instance (subst t ts) types ≡ subst (instance t types) (map (λ u. instance u types) ts)
+abbrev pub InstanceOfSubstitution : Type 0
+InstanceOfSubstitution = (t : Term) (ts : List Term) (types : Tys) → instance (substitute t ts) types ≡ substitute (instance t types) (map (λ u. instance u types) ts)
 
 -- one type instance after another is that of the first one's types, instantiated
 abbrev pub RetypesCompose : Type 0
@@ -167,8 +167,8 @@ abbrev pub ClosedKeepsInst : Type 0
 ClosedKeepsInst = (t : Term) (n : ℕ) (σ : ℕ → Term) → loose t ≤ n → inst (lifts n σ) t ≡ t
 
 -- a closed term has nothing to substitute
-abbrev pub ClosedKeepsSubst : Type 0
-ClosedKeepsSubst = (t : Term) (ts : List Term) → loose t ≡ 0 → subst t ts ≡ t
+abbrev pub ClosedKeepsSubstitution : Type 0
+ClosedKeepsSubstitution = (t : Term) (ts : List Term) → loose t ≡ 0 → substitute t ts ≡ t
 
 -- with no type parameter a type instance changes nothing
 abbrev pub ClosedKeepsRetype : Type 0
@@ -213,8 +213,8 @@ abbrev pub HighestOfShift : Type 0
 HighestOfShift = (t : Term) (from by : ℕ) → highest (shift t from by) ≤ (loose t + by) + depth t
 
 -- nor after a substitution
-abbrev pub HighestOfSubst : Type 0
-HighestOfSubst = (t : Term) (ts : List Term) → highest (subst t ts) ≤ max (loose t) (all_loose (terms ts)) + (depth t + depths (terms ts))
+abbrev pub HighestOfSubstitution : Type 0
+HighestOfSubstitution = (t : Term) (ts : List Term) → highest (substitute t ts) ≤ max (loose t) (all_loose (terms ts)) + (depth t + depths (terms ts))
 
 -- a substitution multiplies the size by no more than that of its greatest term
 abbrev pub SizeOfInst : Type 0

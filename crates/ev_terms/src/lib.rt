@@ -3,10 +3,12 @@
 #![tactic(auto)]
 
 pub mod extents;
+pub mod limits;
 pub mod list;
 pub mod obligation;
 pub mod shared;
 pub mod strings;
+pub mod symbols;
 pub mod term_laws;
 pub mod tree;
 pub mod types;

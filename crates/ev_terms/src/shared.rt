@@ -1,4 +1,4 @@
-ghost use Rattle.std.specs.Prelude.{◌≡◌, IfOk};
+ghost use Rattle.std.specs.Prelude.{◌≡◌, IfOk, IfSome};
 
 use crate::values::{NoMemory, Same, TryCopy};
 use std::alloc::Global;
@@ -24,6 +24,13 @@ impl<T> Shared<T> {
         ensures { result.now ≡ self.now }
     {
         &*self.inner
+    }
+
+    /// The value, if no other handle on it is left.
+    pub fn into_inner(self) -> Option<T>
+        ensures { IfSome result (λ x. x ≡ self) }
+    {
+        Rc::into_inner(self.inner)
     }
 }
 

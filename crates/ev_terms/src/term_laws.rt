@@ -1,4 +1,4 @@
-ghost use Rattle.ev_terms.specs.Laws.{ShiftsCommute, ShiftsMerge, ShiftByZero, ShiftIsInst, InstsCompose, InstByVariables, InstReadsLoose, LiftsKeepBound, LiftsShiftOuter, LiftsAdd, EntryIsGiven, EntryPastFalls, SubstsCompose, ShiftOfInst, InstOfShift, InstPastBinders, ShiftOfSubst, SubstOfShift, SubstUndoesShift, FillIsGiven, FillPastFalls, InstOfSubst, InstOfFill, ShiftOfFill, RetypeOfFill, RetypeOfShift, RetypeOfInst, InstanceOfSubst, RetypesCompose, TypeInstsCompose, InstancesCompose, TypeListsCompose, RetypeReadsParams, RetypeByParams, ClosedKeepsShift, ClosedKeepsInst, ClosedKeepsSubst, ClosedKeepsRetype, ClosedKeepsTypeInst, SizeOfShift, DepthOfShift, ParamsOfShift, LooseOfShift, LooseOfInst, DepthOfInst, HighestIsBounded, HighestOfShift, HighestOfSubst, SizeOfInst, ParamsOfInst, SizeOfRetype, SizeOfTypeInst, DepthOfRetype, DepthOfTypeInst, LooseOfRetype, HighestOfRetype, ParamsOfRetype, ParamsOfTypeInst};
+ghost use Rattle.ev_terms.specs.Laws.{ShiftsCommute, ShiftsMerge, ShiftByZero, ShiftIsInst, InstsCompose, InstByVariables, InstReadsLoose, LiftsKeepBound, LiftsShiftOuter, LiftsAdd, EntryIsGiven, EntryPastFalls, SubstitutionsCompose, ShiftOfInst, InstOfShift, InstPastBinders, ShiftOfSubstitution, SubstitutionOfShift, SubstitutionUndoesShift, FillIsGiven, FillPastFalls, InstOfSubstitution, InstOfFill, ShiftOfFill, RetypeOfFill, RetypeOfShift, RetypeOfInst, InstanceOfSubstitution, RetypesCompose, TypeInstsCompose, InstancesCompose, TypeListsCompose, RetypeReadsParams, RetypeByParams, ClosedKeepsShift, ClosedKeepsInst, ClosedKeepsSubstitution, ClosedKeepsRetype, ClosedKeepsTypeInst, SizeOfShift, DepthOfShift, ParamsOfShift, LooseOfShift, LooseOfInst, DepthOfInst, HighestIsBounded, HighestOfShift, HighestOfSubstitution, SizeOfInst, ParamsOfInst, SizeOfRetype, SizeOfTypeInst, DepthOfRetype, DepthOfTypeInst, LooseOfRetype, HighestOfRetype, ParamsOfRetype, ParamsOfTypeInst};
 
 /// Shifts commute, add up, and are substitutions of variables.
 pub fn shift_laws()
@@ -18,7 +18,7 @@ pub fn substitution_laws()
     ensures binders_add { LiftsAdd }
     ensures entry_given { EntryIsGiven }
     ensures entry_falls { EntryPastFalls }
-    ensures lists_compose { SubstsCompose }
+    ensures lists_compose { SubstitutionsCompose }
 {}
 
 /// A shift goes into a substitution, and a substitution reads past a shift.
@@ -26,16 +26,16 @@ pub fn shift_and_substitution_laws()
     ensures shift_inst { ShiftOfInst }
     ensures inst_shift { InstOfShift }
     ensures past_binders { InstPastBinders }
-    ensures shift_subst { ShiftOfSubst }
-    ensures subst_shift { SubstOfShift }
-    ensures undone { SubstUndoesShift }
+    ensures shift_subst { ShiftOfSubstitution }
+    ensures subst_shift { SubstitutionOfShift }
+    ensures undone { SubstitutionUndoesShift }
 {}
 
 /// The first argument stands for the outermost variable, and all else goes into the arguments.
 pub fn argument_laws()
     ensures given { FillIsGiven }
     ensures falls { FillPastFalls }
-    ensures inst_subst { InstOfSubst }
+    ensures inst_subst { InstOfSubstitution }
     ensures inst_fill { InstOfFill }
     ensures shift_fill { ShiftOfFill }
     ensures retype_fill { RetypeOfFill }
@@ -45,7 +45,7 @@ pub fn argument_laws()
 pub fn type_instance_laws()
     ensures shift { RetypeOfShift }
     ensures inst { RetypeOfInst }
-    ensures subst { InstanceOfSubst }
+    ensures subst { InstanceOfSubstitution }
     ensures compose { RetypesCompose }
     ensures types_compose { TypeInstsCompose }
     ensures lists_compose { InstancesCompose }
@@ -58,7 +58,7 @@ pub fn type_instance_laws()
 pub fn closed_term_laws()
     ensures shift { ClosedKeepsShift }
     ensures inst { ClosedKeepsInst }
-    ensures subst { ClosedKeepsSubst }
+    ensures subst { ClosedKeepsSubstitution }
     ensures retype { ClosedKeepsRetype }
     ensures type_inst { ClosedKeepsTypeInst }
 {}
@@ -73,7 +73,7 @@ pub fn measure_laws()
     ensures depth_inst { DepthOfInst }
     ensures highest { HighestIsBounded }
     ensures highest_shift { HighestOfShift }
-    ensures highest_subst { HighestOfSubst }
+    ensures highest_subst { HighestOfSubstitution }
     ensures size_inst { SizeOfInst }
     ensures params_inst { ParamsOfInst }
 {}

@@ -1,6 +1,6 @@
 ghost use Rattle.std.specs.Prelude.{◌≡◌, ◌<◌, ◌^◌, length, slice_get, IfOk, IfSome};
 ghost use Rattle.std.specs.Option.{option_copied};
-ghost use Rattle.ev_terms.specs.View.{term_of, Kept};
+ghost use Rattle.ev_terms.specs.inner.View.{term_of, Kept};
 ghost use Rattle.ev_terms.specs.Term.{Term, var, lit, node, terms, var_of, lit_of, sym_of, types_of, children};
 
 mod fits;
@@ -57,11 +57,11 @@ impl Model for Tree {
 
     ghost use Rattle.ev_terms.specs.contracts.types.Sym as sym;
     ghost use Rattle.ev_terms.specs.contracts.types.Tys as tys;
-    ghost use Rattle.ev_terms.specs.TermCode.{term_code};
+    ghost use Rattle.ev_terms.specs.inner.TermCode.{term_code};
 
     ghost coded = { term_code sym.the_row.coded tys.the_row.coded };
 
-    ghost use Rattle.ev_terms.specs.View.{term_of, Kept};
+    ghost use Rattle.ev_terms.specs.inner.View.{term_of, Kept};
 
     ghost view = { λ a. term_of a.node };
 
@@ -69,7 +69,7 @@ impl Model for Tree {
 
     ghost size = { depth };
 
-    ghost use Rattle.ev_terms.specs.TreeFalls.{falls};
+    ghost use Rattle.ev_terms.specs.inner.TreeFalls.{falls};
 
     ghost size_decreases = { λ a h. falls a.node };
 }

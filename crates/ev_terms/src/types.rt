@@ -1,11 +1,13 @@
 ghost use Rattle.std.specs.Prelude.{◌≡◌, ◌↔◌, ◌≤◌, [], ◌∷◌, ◌++◌, length, slice_get, IsTrue, IfOk, OnOk, OnErr};
 ghost use Rattle.std.specs.Option.{option_copied};
-ghost use Rattle.ev_terms.specs.Types.{type_list};
-ghost use Rattle.ev_terms.specs.Subst.{type_inst, types_inst, type_at};
+ghost use Rattle.ev_terms.specs.declared.types.Tys.{Empty};
+ghost use Rattle.ev_terms.specs.Types.{more, type_list};
+ghost use Rattle.ev_terms.specs.Substitution.{type_inst, types_inst, type_at};
 ghost use Rattle.ev_terms.specs.Symbols.{binds};
 
 use crate::shared::Shared;
 use crate::strings::Name;
+use crate::symbols::{FOR_ALL, FOR_SOME, SET};
 use crate::values::{NoMemory, Same, TryCopy};
 use std::alloc::Global;
 
@@ -25,18 +27,31 @@ pub enum Ty {
 
 /// A list of types: empty, or a type before further ones. A copy shares everything.
 #[cycle(ty)]
-#[derive(Drop)]
 pub enum Tys {
     Empty,
     More(Shared<Ty>, Shared<Tys>),
 }
 
-/// The symbols that bind, by their rows in the table of base symbols, from 0.
-pub const FOR_ALL: u16 = 7;
-
-pub const FOR_SOME: u16 = 8;
-
-pub const SET_FORMER: u16 = 29;
+/// A loop along the list, up to where it is shared, so that a long one does not run out of stack.
+impl Drop for Tys {
+    #[cycle(drop_types)]
+    fn drop(mut self) {
+        loop {
+            match self {
+                Tys::Empty => return,
+                Tys::More(ty, rest) => {
+                    if let Some(ty) = Shared::into_inner(ty) {
+                        drop(ty);
+                    }
+                    match Shared::into_inner(rest) {
+                        Some(list) => self = list,
+                        None => return,
+                    }
+                }
+            }
+        }
+    }
+}
 
 /// A symbol: a row of the table of base symbols, from 0, or a name that an environment declares.
 #[derive(Drop)]
@@ -52,7 +67,7 @@ pub fn binds(sym: &Sym) -> u32
 {
     match sym {
         Sym::Base(row) => {
-            if *row == FOR_ALL || *row == FOR_SOME || *row == SET_FORMER {
+            if *row == FOR_ALL || *row == FOR_SOME || *row == SET {
                 1
             } else {
                 0
@@ -111,66 +126,95 @@ impl Tys {
         Tys::Empty
     }
 
+    /// The list of one type.
+    pub fn one(alloc: Global, ty: Ty) -> Result<Tys, NoMemory>
+        ensures is { IfOk result (λ ts. ts ≡ more ty Empty) }
+        ensures list { IfOk result (λ ts. type_list ts ≡ ty ∷ []) }
+    {
+        Tys::before(alloc, ty, Tys::Empty)
+    }
+
+    /// The list with a type before it, in constant time.
+    #[tactic(auto, using(crate::proofs::TypeSteps::forms))]
+    pub fn before(alloc: Global, first: Ty, rest: Tys) -> Result<Tys, NoMemory>
+        ensures is { IfOk result (λ ts. ts ≡ more first rest) }
+        ensures list { IfOk result (λ ts. type_list ts ≡ first ∷ type_list rest) }
+    {
+        let first = Shared::new(alloc, first)?;
+        Ok(Tys::More(first, Shared::new(alloc, rest)?))
+    }
+
+    /// The list of a vector's types, in linear time.
+    pub fn from_vec(alloc: Global, types: Vec<Ty>) -> Result<Tys, NoMemory>
+        ensures { IfOk result (λ ts. type_list ts ≡ types.items) }
+    {
+        let mut left = types;
+        let mut list = Tys::Empty;
+        while let Some(last) = left.pop() {
+            list = Tys::before(alloc, last, list)?;
+        }
+        Ok(list)
+    }
+
+    /// The types in a vector, which share what they consist of with the list. In linear time.
+    pub fn to_vec(&self, alloc: Global) -> Result<Vec<Ty>, NoMemory>
+        ensures { IfOk result (λ types. types.items ≡ type_list self.now) }
+    {
+        let mut types = Vec::new(alloc);
+        let mut left = self;
+        while let Tys::More(ty, rest) = left {
+            types.push(ty.get().try_copy(alloc)?)?;
+            left = rest.get();
+        }
+        Ok(types)
+    }
+
+    /// How many types there are, in time linear in their number.
     pub fn len(&self) -> usize
         requires { length (type_list self.now) ≤ usize.MAX }
         ensures { result ≡ length (type_list self.now) }
     {
-        match self {
-            Tys::Empty => 0,
-            Tys::More(_, rest) => rest.get().len() + 1,
+        let mut count = 0;
+        let mut left = self;
+        while let Tys::More(_, rest) = left {
+            count += 1;
+            left = rest.get();
         }
+        count
     }
 
+    /// A type, from 0, in time linear in its number.
     pub fn get(&self, i: usize) -> Option<&Ty>
         ensures { option_copied result ≡ slice_get (type_list self.now) i }
     {
-        match self {
-            Tys::Empty => None,
-            Tys::More(a, rest) => {
-                if i == 0 {
-                    Some(a.get())
-                } else {
-                    rest.get().get(i - 1)
-                }
+        let mut at = i;
+        let mut left = self;
+        while let Tys::More(ty, rest) = left {
+            if at == 0 {
+                return Some(ty.get());
             }
+            at -= 1;
+            left = rest.get();
         }
+        None
     }
 
-    /// Appends a type, in time linear in the length. After `NoMemory` the list is as it was.
+    /// Appends a type. Each call takes time linear in the length, so a long list is made by `from_vec`. After `NoMemory` the list is
+    /// as it was.
     pub fn push(&mut self, alloc: Global, item: Ty) -> Result<(), NoMemory>
         ensures ok { OnOk result (type_list self.new ≡ type_list self.old ++ item ∷ []) }
         ensures err { OnErr result (self.new ≡ self.old) }
     {
-        let last = Shared::new(alloc, item)?;
-        let list = with_last(alloc, self, last)?;
-        *self = list;
+        let mut types = self.to_vec(alloc)?;
+        types.push(item)?;
+        *self = Tys::from_vec(alloc, types)?;
         Ok(())
-    }
-}
-
-#[tactic(auto, using(crate::proofs::TypeSteps::walk))]
-fn with_first(alloc: Global, first: Shared<Ty>, rest: Tys) -> Result<Tys, NoMemory>
-    ensures { IfOk result (λ ts. type_list ts ≡ first ∷ type_list rest) }
-{
-    Ok(Tys::More(first, Shared::new(alloc, rest)?))
-}
-
-#[tactic(auto, using(crate::proofs::TypeSteps::walk))]
-fn with_last(alloc: Global, list: &Tys, last: Shared<Ty>) -> Result<Tys, NoMemory>
-    ensures { IfOk result (λ ts. type_list ts ≡ type_list list.now ++ last ∷ []) }
-{
-    match list {
-        Tys::Empty => with_first(alloc, last, Tys::Empty),
-        Tys::More(first, rest) => {
-            let rest = with_last(alloc, rest.get(), last)?;
-            with_first(alloc, first.share()?, rest)
-        }
     }
 }
 
 /// The type with the i-th type for parameter i, all at once; parameters past the list stay.
 #[cycle(instantiate_type)]
-#[tactic(auto, using(crate::proofs::TypeSteps::walk))]
+#[tactic(auto, using(crate::proofs::Children::instance_walk))]
 pub fn instantiate_type(alloc: Global, ty: &Ty, types: &Tys) -> Result<Ty, NoMemory>
     ensures { IfOk result (λ a. a ≡ type_inst (type_at types.now) ty.now) }
 {
@@ -198,18 +242,17 @@ pub fn instantiate_type(alloc: Global, ty: &Ty, types: &Tys) -> Result<Ty, NoMem
 
 /// `instantiate_type` on each type of a list.
 #[cycle(instantiate_type)]
-#[tactic(auto, using(crate::proofs::TypeSteps::walk))]
+#[tactic(auto, using(crate::proofs::Children::instance_walk))]
 pub fn instantiate_list(alloc: Global, list: &Tys, types: &Tys) -> Result<Tys, NoMemory>
     ensures { IfOk result (λ ts. ts ≡ types_inst (type_at types.now) list.now) }
 {
-    match list {
-        Tys::Empty => Ok(Tys::Empty),
-        Tys::More(a, rest) => {
-            let a = Shared::new(alloc, instantiate_type(alloc, a.get(), types)?)?;
-            let rest = Shared::new(alloc, instantiate_list(alloc, rest.get(), types)?)?;
-            Ok(Tys::More(a, rest))
-        }
+    let mut instances = Vec::new(alloc);
+    let mut left = list;
+    while let Tys::More(ty, rest) = left {
+        instances.push(instantiate_type(alloc, ty.get(), types)?)?;
+        left = rest.get();
     }
+    Tys::from_vec(alloc, instances)
 }
 
 impl Same for Sym {
@@ -242,11 +285,21 @@ impl Same for Ty {
 impl Same for Tys {
     #[cycle(same_type)]
     fn same(&self, other: &Tys) -> bool {
-        match (self, other) {
-            (Tys::Empty, Tys::Empty) => true,
-            (Tys::More(a, rest), Tys::More(b, others)) => a.get().same(b.get())
-                && rest.get().same(others.get()),
-            _ => false,
+        let mut left = self;
+        let mut others = other;
+        while let Tys::More(a, rest) = left {
+            let Tys::More(b, further) = others else {
+                return false;
+            };
+            if !a.get().same(b.get()) {
+                return false;
+            }
+            left = rest.get();
+            others = further.get();
+        }
+        match others {
+            Tys::Empty => true,
+            Tys::More(_, _) => false,
         }
     }
 }

@@ -1,7 +1,7 @@
 -- What the code that finds types needs.
 use Rattle.std.specs.Prelude.{◌≡◌, ◌==◌, ◌&&◌, ◌+◌, ◌-◌, ◌≤◌, ◌<◌, ◌^◌, ◌↔◌, ℕ, zero, suc, Bool as Boolean, true, false, if◌then◌else◌, List, [], ◌∷◌, ◌++◌, Option, Some, None, map, length, slice_get, take, drop, reverse, IsTrue, IsSomeAnd, refl}
 use Rattle.std.specs.Option.{option_and_then}
-use Rattle.std.proofs.Common.{ap, sym, ◌∙◌, subst, append_assoc, true≢false, arith, get_or}
+use Rattle.std.proofs.Common.{ap, sym, ◌∙◌, subst, true≢false, arith, get_or}
 use Rattle.std.proofs.lemmas.Bool.{eqb-true, eq-eqb}
 use Rattle.std.proofs.lemmas.Option.{slice_get-get_or, slice_get_past}
 use Rattle.std.proofs.lemmas.List.{get_or-reverse, length-reverse}
@@ -14,16 +14,16 @@ use Rattle.ev_terms.specs.Types.{type_list, Pow-pow, Prod-prod, More-more}
 use Rattle.ev_terms.specs.Term.{Term, Terms, var, lit, node, nil, terms, var_of, lit_of, sym_of, types_of, children, terms-term_list}
 use Rattle.ev_terms.specs.Symbols.{binds}
 use Rattle.ev_terms.specs.Measures.{depth, depths}
-use Rattle.ev_terms.specs.Subst.{type_inst, type_at}
+use Rattle.ev_terms.specs.Substitution.{type_inst, type_at}
 use Rattle.ev_terms.proofs.ListLaws.{binds_le}
-use Rattle.ev_terms.proofs.Children.{depth_at}
-use Rattle.ev_terms.proofs.TypeSteps.{type_list-More}
+use Rattle.ev_terms.proofs.Children.{depth_at, type_size-Pow, type_size-Prod, types_size-More}
+use Rattle.ev_terms.proofs.TypeSteps.{before_rest}
 use Rattle.ev_typing.specs.declared.instances.Instance.{Instance}
 use Rattle.ev_typing.specs.Profiles.{Profile}
 use Rattle.ev_typing.specs.Env.{Env, profile}
 use Rattle.ev_typing.specs.Typing.{AreProper, Typed, AreTyped, IsTypedNode, var_type, inside}
 use Rattle.ev_typing.specs.Proper.{is_proper, are_proper}
-use Rattle.ev_typing.specs.Instances.{instance_at, at_types, instance_of}
+use Rattle.ev_typing.specs.inner.Instances.{instance_at, at_types, instance_of}
 use Rattle.ev_typing.proofs.Proper.{proper_from_test, all_proper_from_test, test_from_proper, test_from_all_proper}
 use Rattle.ev_typing.proofs.Names.{drop_at, drop_all}
 use Rattle.ev_typing.proofs.Laws.{Typed-unique}
@@ -43,21 +43,12 @@ prod_step env C A B A' B' r e a b t q =
     q ∙ ap (is_proper env) b
     ∙ sym (ap (is_proper env) e ∙ is_proper-Prod env A B ∙ ap (λ x. x && is_proper env B) (ap (is_proper env) (sym a) ∙ sym t))
 
-pub more_step : (env : Env) (As : Tys) (A : Ty) (rest : Tys) (A' : Ty) (rest' : Tys) (r : Boolean) → As ≡ More A rest → A' ≡ A → rest' ≡ rest → true ≡ is_proper env A' → r ≡ are_proper env rest' →
-    r ≡ are_proper env As
-more_step env As A rest A' rest' r e a b t q =
-    q ∙ ap (are_proper env) b
-    ∙ sym (ap (are_proper env) e ∙ are_proper-More env A rest ∙ ap (λ x. x && are_proper env rest) (ap (is_proper env) (sym a) ∙ sym t))
+pub proper_step : (env : Env) (p : Boolean) (a x : Ty) (left rest got : Tys) → left ≡ More a rest → got ≡ rest → x ≡ a → true ≡ is_proper env x →
+    are_proper env left ≡ p → are_proper env got ≡ p
+proper_step env p a x left rest got l g e t h =
+    sym (ap (are_proper env) (before_rest left rest got a l g) ∙ ap (λ b. b && are_proper env got) (sym (t ∙ ap (is_proper env) e))) ∙ h
 
-pub list_step : (types new all : List Ty) (x a : Ty) (left rest got : Tys) → left ≡ More a rest → x ≡ a → new ≡ types ++ x ∷ [] → got ≡ rest →
-    types ++ type_list left ≡ all → new ++ type_list got ≡ all
-list_step types new all x a left rest got l p q g h =
-    ap (λ ys. ys ++ type_list got) (q ∙ ap (λ y. types ++ y ∷ []) p)
-    ∙ append_assoc types (a ∷ []) (type_list got)
-    ∙ ap (λ r. types ++ a ∷ type_list r) g
-    ∙ sym (ap (λ ts. types ++ ts) (ap type_list l ∙ type_list-More a rest)) ∙ h
-
-pub ruleset tests = (is_proper-Pow, is_proper-Prod, are_proper-More)
+pub ruleset tests = (is_proper-Pow, is_proper-Prod, are_proper-More, type_size-Pow, type_size-Prod, types_size-More)
 
 pub ruleset proper_types = (proper_from_test, all_proper_from_test, test_from_proper, test_from_all_proper)
 

@@ -12,12 +12,12 @@ use Rattle.ev_terms.specs.declared.types.Sym.TheVariants.{Base, User}
 use Rattle.ev_terms.specs.Types.{type_list}
 use Rattle.ev_terms.specs.Term.{Term, Terms, var, lit, node, nil, cons, terms}
 use Rattle.ev_terms.specs.Symbols.{binds}
-use Rattle.ev_terms.specs.Subst.{shift_var, lift, lifts, insts, entry, type_inst, type_at}
+use Rattle.ev_terms.specs.Substitution.{shift_var, lift, lifts, insts, entry, type_inst, type_at}
 use Rattle.ev_terms.proofs.Subst.{ren, rens, lift_ren, lift_rens, shift_one, shift-ren}
 use Rattle.ev_typing.specs.Profiles.{Profile, base_profile}
 use Rattle.ev_typing.specs.Env.{Env, profile}
 use Rattle.ev_typing.specs.Typing.{Typed, AreTyped, var_type, inside}
-use Rattle.ev_typing.specs.TypingLaws.{Puts, ShiftKeepsTypes, InstKeepsTypes, SubstKeepsTypes, FillKeepsTypes}
+use Rattle.ev_typing.specs.TypingLaws.{Puts, ShiftKeepsTypes, InstKeepsTypes, SubstitutionKeepsTypes, FillKeepsTypes}
 
 -- The variable of a context that is one longer.
 pub var_here : (C : List Ty) (A : Ty) → var_type (C ++ A ∷ []) 0 ≡ Some A
@@ -194,7 +194,7 @@ puts_entry env C (B ∷ Bs) (t ∷ ts) h i A g =
     each zero e k = let p : Some B ≡ Some A = sym (var_here (C ++ reverse Bs) B) ∙ e in let q : B ≡ A = cc in transport (Typed env C t) q h.0
     each (suc j) e k = k j A (sym (var_later (C ++ reverse Bs) B j) ∙ e)
 
-pub subst_typed : SubstKeepsTypes
+pub subst_typed : SubstitutionKeepsTypes
 subst_typed env C As ts h t A g = inst_typed env (entry ts) (C ++ reverse As) C (puts_entry env C As ts h) t A g
 
 -- the arguments in the other order

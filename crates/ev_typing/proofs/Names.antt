@@ -14,7 +14,7 @@ use Rattle.ev_typing.specs.declared.typing.DataDecl.{DataDecl}
 use Rattle.ev_typing.specs.declared.typing.Con.{Con}
 use Rattle.ev_typing.specs.declared.typing.Var.{Var}
 use Rattle.ev_typing.specs.Env.{Env, Name, Symbol, DesOf, con_symbols, names, declares, declaring, number_of}
-use Rattle.ev_typing.specs.Numbered.{IsNumbered, con_names, all_con_names}
+use Rattle.ev_typing.specs.inner.Numbered.{IsNumbered, con_names, all_con_names}
 use Rattle.ev_typing.specs.WellFormed.{HasNewNames, IsGoodEntry, AreGoodAfter, IsWellFormed}
 
 pub same_name : (m n : Name) → bytes_eq m n ≡ true → m ≡ n

@@ -9,8 +9,8 @@ use Rattle.ev_terms.specs.declared.types.Ty.{Ty, Param, Data}
 use Rattle.ev_terms.specs.declared.types.Tys.{Tys, Empty}
 use Rattle.ev_terms.specs.declared.types.Tys.TheVariants.{More}
 use Rattle.ev_terms.specs.Types.{pow, prod, more, type_list, Pow-pow, Prod-prod, More-more}
-use Rattle.ev_terms.specs.Subst.{type_inst, types_inst, type_at}
-use Rattle.ev_terms.proofs.TypeSteps.{type_list-More}
+use Rattle.ev_terms.specs.Substitution.{type_inst, types_inst, type_at}
+use Rattle.ev_terms.proofs.TypeSteps.{type_list-More, before_rest}
 use Rattle.ev_typing.specs.declared.typing.Entry.{Entry}
 use Rattle.ev_typing.specs.declared.typing.DataDecl.{DataDecl}
 use Rattle.ev_typing.specs.declared.typing.Con.{Con}
@@ -22,7 +22,7 @@ use Rattle.ev_typing.specs.Profiles.{base_profiles, base_profile}
 use Rattle.ev_typing.specs.Table.{row_profile}
 use Rattle.ev_typing.specs.Env.{Env, Name, Symbol, ConOf, DesOf, look_up, con_symbols, symbols, declaring, find_symbol, con_profile, des_profile, symbol_profile}
 use Rattle.ev_typing.specs.WellFormed.{IsWellFormed}
-use Rattle.ev_typing.specs.Instances.{instance_at, at_types}
+use Rattle.ev_typing.specs.inner.Instances.{instance_at, at_types}
 use Rattle.ev_typing.proofs.Entries.{find_symbol-declaring}
 use Rattle.ev_typing.proofs.Names.{drop_at, drop_all, all_append}
 
@@ -33,6 +33,11 @@ pub ruleset counting = (type_list-More)
 pub count_one_more : (k n : ℕ) → (n ≡ 0 → ⊥) → (k == n - 1) ≡ (suc k == n)
 count_one_more k zero h = absurd (h refl)
 count_one_more k (suc n) h = grind (arith, nat_tests)
+
+pub count_step : (n : ℕ) (b : Boolean) (a : Ty) (left rest got : Tys) → left ≡ More a rest → got ≡ rest → (n ≡ 0 → ⊥) → (length (type_list left) == n) ≡ b →
+    (length (type_list got) == n - 1) ≡ b
+count_step n b a left rest got l g h e =
+    count_one_more (length (type_list got)) n h ∙ sym (ap (λ ts. length (type_list ts) == n) (before_rest left rest got a l g)) ∙ e
 
 pub types_step : (θ : ℕ → Ty) (args new all : List Ty) (x a : Ty) (left rest got : Tys) → left ≡ More a rest → x ≡ type_inst θ a → new ≡ args ++ x ∷ [] → got ≡ rest →
     args ++ map (type_inst θ) (type_list left) ≡ all → new ++ map (type_inst θ) (type_list got) ≡ all

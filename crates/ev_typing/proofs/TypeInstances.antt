@@ -14,7 +14,7 @@ use Rattle.ev_terms.specs.Types.{pow, prod, more, type_list}
 use Rattle.ev_terms.specs.Term.{Term, Terms, var, lit, node, nil, cons}
 use Rattle.ev_terms.specs.Symbols.{binds}
 use Rattle.ev_terms.specs.Measures.{type_params, types_params}
-use Rattle.ev_terms.specs.Subst.{type_inst, types_inst, type_at, retype, retypes}
+use Rattle.ev_terms.specs.Substitution.{type_inst, types_inst, type_at, retype, retypes}
 use Rattle.ev_terms.proofs.ListLaws.{type_inst-type_inst}
 use Rattle.ev_typing.specs.declared.typing.Entry.{Entry}
 use Rattle.ev_typing.specs.declared.typing.Entry.TheVariants as entry

@@ -3,7 +3,7 @@ use Rattle.std.specs.Prelude.{◌++◌, Bool as Boolean, true, false, List, [], 
 use Rattle.std.specs.List.{AllByRecursion}
 use Rattle.ev_terms.specs.declared.types.Ty.{Ty}
 use Rattle.ev_terms.specs.Types.{type_list}
-use Rattle.ev_terms.specs.Subst.{shift}
+use Rattle.ev_terms.specs.Substitution.{shift}
 use Rattle.ev_typing.specs.declared.typing.Entry.{Entry}
 use Rattle.ev_typing.specs.declared.typing.Entry.TheVariants.{Data, Constant, Direct, Recursive}
 use Rattle.ev_typing.specs.declared.typing.Sequent.{Sequent}

@@ -8,7 +8,6 @@ pub mod Proper
 pub mod Occurs
 pub mod Table
 pub mod WellFormed
-pub mod Numbered
-pub mod Instances
 pub mod Parts
 pub mod TypingLaws
+pub mod inner

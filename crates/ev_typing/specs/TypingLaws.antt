@@ -3,7 +3,7 @@ use Rattle.std.specs.Prelude.{◌≡◌, ◌++◌, ℕ, List, Some, map, reverse
 use Rattle.ev_terms.specs.declared.types.Ty.{Ty}
 use Rattle.ev_terms.specs.declared.types.Tys.{Tys}
 use Rattle.ev_terms.specs.Term.{Term, terms}
-use Rattle.ev_terms.specs.Subst.{shift, inst, subst, fill, type_inst, type_at, instance}
+use Rattle.ev_terms.specs.Substitution.{shift, inst, substitute, fill, type_inst, type_at, instance}
 use Rattle.ev_typing.specs.Env.{Env}
 use Rattle.ev_typing.specs.Typing.{IsProper, AreProper, Typed, AreTyped, var_type}
 use Rattle.ev_typing.specs.Proper.{HasProperSignatures}
@@ -27,9 +27,9 @@ abbrev pub InstKeepsTypes : Type 0
 InstKeepsTypes = (env : Env) (σ : ℕ → Term) (C D : List Ty) → Puts env σ C D → (t : Term) (A : Ty) → Typed env C t A → Typed env D (inst σ t) A
 
 -- terms for the innermost variables, the first one for the innermost
-abbrev pub SubstKeepsTypes : Type 0
-SubstKeepsTypes = (env : Env) (C As : List Ty) (ts : List Term) → AreTyped env C (terms ts) As → (t : Term) (A : Ty) →
-    Typed env (C ++ reverse As) t A → Typed env C (subst t ts) A
+abbrev pub SubstitutionKeepsTypes : Type 0
+SubstitutionKeepsTypes = (env : Env) (C As : List Ty) (ts : List Term) → AreTyped env C (terms ts) As → (t : Term) (A : Ty) →
+    Typed env (C ++ reverse As) t A → Typed env C (substitute t ts) A
 
 -- the same for arguments, of which the first stands for the outermost variable
 abbrev pub FillKeepsTypes : Type 0

@@ -6,7 +6,7 @@ use Rattle.ev_terms.specs.declared.types.Ty.{Ty, Prop, Data as DataType}
 use Rattle.ev_terms.specs.declared.types.Tys.{Tys}
 use Rattle.ev_terms.specs.Types.{type_list}
 use Rattle.ev_terms.specs.Term.{Term}
-use Rattle.ev_terms.specs.Subst.{type_inst, type_at}
+use Rattle.ev_terms.specs.Substitution.{type_inst, type_at}
 use Rattle.ev_terms.specs.Measures.{type_params, types_params, params, depth}
 use Rattle.ev_typing.specs.declared.typing.Entry.{Entry}
 use Rattle.ev_typing.specs.declared.typing.Entry.TheVariants.{Data, Constant, Direct, Recursive}

@@ -4,13 +4,13 @@ ghost use Rattle.std.specs.Prelude.{◌≡◌, ◌↔◌, map, IsTrue, IfOk, OnO
 ghost use Rattle.std.specs.List.{AllByRecursion};
 ghost use Rattle.ev_terms.specs.Types.{type_list};
 ghost use Rattle.ev_terms.specs.Term.{terms};
-ghost use Rattle.ev_terms.specs.Subst.{type_inst, type_at};
+ghost use Rattle.ev_terms.specs.Substitution.{type_inst, type_at};
 ghost use Rattle.ev_terms.specs.declared.types.Ty.{Prop};
 ghost use Rattle.ev_typing.specs.Typing.{Typed, AreTyped, IsPredicate, IsSequent};
 ghost use Rattle.ev_typing.specs.Occurs.{is_direct, IsPlain, ArePlain};
 ghost use Rattle.ev_typing.specs.BaseSequents.{is_direct_entry, IsBaseSequent, WholeKeepsBaseSequents};
 
-use crate::checking::{all_fit, are_proper, fits, types_of};
+use crate::checking::{all_fit, are_proper, fits};
 use crate::environment::Env;
 use crate::instances::types_at;
 use crate::typing::{Entry, Sequent};
@@ -22,7 +22,6 @@ use std::alloc::Global;
 fn is_direct(env: &Env, sym: &Sym) -> bool
     ensures { result ≡ is_direct env.now sym.now }
 {
-    let _opened = env.count();
     match sym {
         Sym::Base(_) => false,
         Sym::User(name) => match env.symbol(name) {
@@ -112,7 +111,7 @@ pub fn is_sequent(alloc: Global, env: &Env, sequent: &Sequent) -> Result<bool, N
     if !are_proper(env, &sequent.context) {
         return Ok(false);
     }
-    let mut variables = types_of(alloc, &sequent.context)?;
+    let mut variables = sequent.context.to_vec(alloc)?;
     if !are_predicates(alloc, env, &mut variables, sequent.hyps.as_slice())? {
         return Ok(false);
     }
@@ -145,7 +144,7 @@ pub fn has_type(
 ) -> Result<bool, NoMemory>
     ensures { IfOk result (λ b. IsTrue b ↔ Typed env.now (type_list context.now) tree.now ty.now) }
 {
-    let mut variables = types_of(alloc, context)?;
+    let mut variables = context.to_vec(alloc)?;
     fits(alloc, env, &mut variables, tree, ty)
 }
 
@@ -160,7 +159,7 @@ pub fn have_types_at(
 ) -> Result<bool, NoMemory>
     ensures { IfOk result (λ b. IsTrue b ↔ AreTyped env.now (type_list context.now) (terms trees.now) (map (type_inst (type_at types.now)) (type_list list.now))) }
 {
-    let mut variables = types_of(alloc, context)?;
+    let mut variables = context.to_vec(alloc)?;
     let expected = types_at(alloc, list, types)?;
     all_fit(alloc, env, &mut variables, trees, expected.as_slice())
 }

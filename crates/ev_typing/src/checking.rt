@@ -5,7 +5,7 @@ ghost use Rattle.ev_terms.specs.Term.{node, terms, sym_of};
 ghost use Rattle.ev_typing.specs.Env.{Env};
 ghost use Rattle.ev_typing.specs.Typing.{IsProper, AreProper, Typed, AreTyped, var_type, inside};
 ghost use Rattle.ev_typing.specs.Proper.{is_proper, are_proper};
-ghost use Rattle.ev_typing.specs.Instances.{IsTypeOf};
+ghost use Rattle.ev_typing.specs.Typing.{IsTypeOf};
 
 use crate::environment::Env;
 use crate::instances::{has_count, instance_of};
@@ -50,10 +50,14 @@ fn test_type(env: &Env, ty: &Ty) -> bool
 fn test_types(env: &Env, types: &Tys) -> bool
     ensures { result ≡ are_proper env.now types.now }
 {
-    match types {
-        Tys::Empty => true,
-        Tys::More(a, rest) => test_type(env, a.get()) && test_types(env, rest.get()),
+    let mut left = types;
+    while let Tys::More(ty, rest) = left {
+        if !test_type(env, ty.get()) {
+            return false;
+        }
+        left = rest.get();
     }
+    true
 }
 
 /// The type of a term in a context, whose first type is that of the outermost variable; `None` exactly where the term has none. Linear
@@ -61,21 +65,8 @@ fn test_types(env: &Env, types: &Tys) -> bool
 pub fn type_of(alloc: Global, env: &Env, context: &Tys, tree: &Tree) -> Result<Option<Ty>, NoMemory>
     ensures { IfOk result (IsTypeOf env.now (type_list context.now) tree.now) }
 {
-    let mut variables = types_of(alloc, context)?;
+    let mut variables = context.to_vec(alloc)?;
     type_in(alloc, env, &mut variables, tree)
-}
-
-#[tactic(auto, using(crate::proofs::Signatures::counting))]
-pub(crate) fn types_of(alloc: Global, list: &Tys) -> Result<Vec<Ty>, NoMemory>
-    ensures { IfOk result (λ types. types.items ≡ type_list list.now) }
-{
-    let mut types = Vec::new(alloc);
-    let mut left = list;
-    while let Tys::More(ty, rest) = left {
-        types.push(ty.get().try_copy(alloc)?)?;
-        left = rest.get();
-    }
-    Ok(types)
 }
 
 /// The type in the context of these variables, the outermost first.
@@ -91,7 +82,7 @@ fn type_in(
     ensures kept { OnOk result (context.new.items ≡ context.old.items) }
 {
     match tree.sym() {
-        None => leaf_type(alloc, env, context.as_slice(), tree),
+        None => leaf_type(alloc, context.as_slice(), tree),
         Some(sym) => match tree.types() {
             Some(types) => node_type(alloc, env, context, sym, types, tree.children()),
             None => unreachable!(),
@@ -100,9 +91,9 @@ fn type_in(
 }
 
 #[tactic(auto, using(crate::proofs::Checks::leaves))]
-fn leaf_type(alloc: Global, _env: &Env, context: &[Ty], tree: &Tree) -> Result<Option<Ty>, NoMemory>
+fn leaf_type(alloc: Global, context: &[Ty], tree: &Tree) -> Result<Option<Ty>, NoMemory>
     requires { sym_of tree.now ≡ None }
-    ensures { IfOk result (IsTypeOf _env.now context.now tree.now) }
+    ensures { IfOk result (λ o. (env : Env) → IsTypeOf env context.now tree.now o) }
 {
     if let Some(i) = tree.var() {
         return match variable_type(context, i) {

@@ -32,7 +32,7 @@ impl Model for Env {
     ghost view = { λ e. e.entries };
 
     ghost use Rattle.ev_typing.specs.WellFormed.{IsWellFormed};
-    ghost use Rattle.ev_typing.specs.Numbered.{IsNumbered};
+    ghost use Rattle.ev_typing.specs.inner.Numbered.{IsNumbered};
 
     ghost invariant = { λ e. IsNumbered e.numbers e.entries × IsWellFormed e.entries };
 }
@@ -66,7 +66,8 @@ impl Env {
 
     /// The entry that declares the name, as a datatype, constructor, destructor, operator or constant. In constant time.
     pub fn symbol(&self, name: &Name) -> Option<&Entry>
-        ensures { option_copied result ≡ declaring self.now name.now }
+        ensures is { option_copied result ≡ declaring self.now name.now }
+        ensures well_formed { IsWellFormed self.now }
     {
         match self.numbers.get(name) {
             Some(i) => self.entries.get(*i),
@@ -94,7 +95,6 @@ impl Env {
     pub fn datatype(&self, name: &Name) -> Option<&DataDecl>
         ensures { option_copied result ≡ find_data self.now name.now }
     {
-        let _opened = &self.numbers;
         match self.symbol(name) {
             Some(entry) => data_of(entry, name),
             None => None,

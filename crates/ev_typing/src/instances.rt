@@ -1,17 +1,18 @@
 ghost use Rattle.std.specs.Prelude.{◌≡◌, ◌==◌, Some, None, map, length, find, bytes_eq, flat_map, option_map, if◌then◌else◌, IfOk};
 ghost use Rattle.std.specs.Option.{option_copied, option_and_then};
 ghost use Rattle.ev_terms.specs.Types.{pow, prod, type_list};
-ghost use Rattle.ev_terms.specs.Subst.{type_inst, type_at};
+ghost use Rattle.ev_terms.specs.Substitution.{type_inst, type_at};
 ghost use Rattle.ev_typing.specs.declared.typing.Var.{Var};
 ghost use Rattle.ev_typing.specs.Table.{relation, form_type, children_types, row_profile};
 ghost use Rattle.ev_typing.specs.Env.{Symbol, ConOf, look_up, find_symbol, con_symbols, symbols, con_profile, des_profile, signature_profile, symbol_profile, own_type};
 ghost use Rattle.ev_typing.specs.Profiles.{base_profile};
-ghost use Rattle.ev_typing.specs.Instances.{instance_at, at_types, instance_of};
+ghost use Rattle.ev_typing.specs.inner.Instances.{instance_at, at_types, instance_of};
 
 use crate::environment::Env;
 use crate::table::{Children, Form, Row, base_symbols};
-use crate::typing::{Con, DataDecl, Entry, Signature, Var};
-use ev_terms::{ListOf, Name, NoMemory, Shared, Sym, TryCopy, Ty, Tys, instantiate_type};
+use crate::type_forms::{pair_of, relation_of, set_of};
+use crate::typing::{Con, DataDecl, Entry, Signature, Var, field_of};
+use ev_terms::{ListOf, Name, NoMemory, Sym, TryCopy, Ty, Tys, instantiate_type};
 use std::alloc::Global;
 
 /// The types of a symbol's children and its own, the symbol's type arguments put in.
@@ -50,7 +51,6 @@ fn base_at(alloc: Global, k: u16, types: &Tys) -> Result<Option<Instance>, NoMem
 fn user_at(alloc: Global, env: &Env, name: &Name, types: &Tys) -> Result<Option<Instance>, NoMemory>
     ensures { IfOk result (λ o. o ≡ option_and_then (at_types types.now) (option_map symbol_profile (find_symbol env.now name.now))) }
 {
-    let _opened = env.count();
     match env.symbol(name) {
         Some(entry) => entry_at(alloc, entry, name, types),
         None => Ok(None),
@@ -62,14 +62,16 @@ fn user_at(alloc: Global, env: &Env, name: &Name, types: &Tys) -> Result<Option<
 pub(crate) fn has_count(types: &Tys, n: u32) -> bool
     ensures { result ≡ (length (type_list types.now) == n) }
 {
-    match types {
-        Tys::Empty => n == 0,
-        Tys::More(_, rest) => if n == 0 {
-            false
-        } else {
-            has_count(rest.get(), n - 1)
-        },
+    let mut missing = n;
+    let mut left = types;
+    while let Tys::More(_, rest) = left {
+        if missing == 0 {
+            return false;
+        }
+        missing -= 1;
+        left = rest.get();
     }
+    missing == 0
 }
 
 fn param_at(alloc: Global, types: &Tys, i: u32) -> Result<Ty, NoMemory>
@@ -79,28 +81,6 @@ fn param_at(alloc: Global, types: &Tys, i: u32) -> Result<Ty, NoMemory>
         Some(ty) => ty.try_copy(alloc),
         None => Ok(Ty::Param(i)),
     }
-}
-
-#[tactic(auto, using(crate::proofs::Signatures::forms))]
-fn set_of(alloc: Global, ty: Ty) -> Result<Ty, NoMemory>
-    ensures { IfOk result (λ a. a ≡ pow ty) }
-{
-    Ok(Ty::Pow(Shared::new(alloc, ty)?))
-}
-
-#[tactic(auto, using(crate::proofs::Signatures::forms))]
-fn pair_of(alloc: Global, first: Ty, second: Ty) -> Result<Ty, NoMemory>
-    ensures { IfOk result (λ a. a ≡ prod first second) }
-{
-    let first = Shared::new(alloc, first)?;
-    let second = Shared::new(alloc, second)?;
-    Ok(Ty::Prod(first, second))
-}
-
-fn relation_of(alloc: Global, from: Ty, to: Ty) -> Result<Ty, NoMemory>
-    ensures { IfOk result (λ a. a ≡ relation from to) }
-{
-    set_of(alloc, pair_of(alloc, from, to)?)
 }
 
 fn relation_at(alloc: Global, types: &Tys, from: u32, to: u32) -> Result<Ty, NoMemory>
@@ -283,18 +263,6 @@ fn con_at(
         Some(field) => Ok(Some(destructor_at(alloc, decl, field, types)?)),
         None => Ok(None),
     }
-}
-
-#[tactic(auto, using(crate::proofs::Names::listed))]
-fn field_of<'a>(con: &'a Con, name: &Name) -> Option<&'a Var>
-    ensures { option_copied result ≡ find (λ (f : Var). bytes_eq f.name name.now) con.now.fields }
-{
-    for field in con.fields.as_slice() {
-        if field.name == *name {
-            return Some(field);
-        }
-    }
-    None
 }
 
 #[tactic(auto, using(crate::proofs::Signatures::own))]

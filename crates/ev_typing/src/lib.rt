@@ -7,6 +7,7 @@ pub mod checking;
 pub mod environment;
 mod instances;
 pub mod table;
+pub mod type_forms;
 pub mod typing;
 pub mod typing_laws;
 
@@ -16,7 +17,8 @@ pub use base_sequents::{
 pub use checking::{are_proper, is_proper, type_of};
 pub use environment::Env;
 pub use table::{BASE_COUNT, Children, Form, Row, Symbols, base_symbols};
+pub use type_forms::{pair_of, relation_of, set_of};
 pub use typing::{
-    Con, Cons, DataDecl, Entry, Sequent, Sequents, Signature, Var, Vars, sequent_extent,
+    Con, Cons, DataDecl, Entry, Sequent, Sequents, Signature, Var, Vars, field_of, sequent_extent,
 };
 pub use typing_laws::{signatures_are_proper, type_is_unique, types_are_kept, wholes_keep_types};

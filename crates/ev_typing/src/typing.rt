@@ -1,5 +1,7 @@
-ghost use Rattle.std.specs.Prelude.{◌≡◌, ◌↔◌, IsTrue, IfOk};
+ghost use Rattle.std.specs.Prelude.{◌≡◌, ◌↔◌, find, bytes_eq, IsTrue, IfOk};
+ghost use Rattle.std.specs.Option.{option_copied};
 ghost use Rattle.ev_terms.specs.Measures.{capped};
+ghost use Rattle.ev_typing.specs.declared.typing.Var.{Var};
 ghost use Rattle.ev_typing.specs.Sequents.{sequent_size, sequent_depth};
 
 use ev_terms::{
@@ -213,6 +215,19 @@ impl Same for Sequent {
             && self.hyps.same(&other.hyps)
             && self.goal.same(&other.goal)
     }
+}
+
+/// The field of the name, the first one if there are more. Linear in the constructor's fields.
+#[tactic(auto, using(crate::proofs::Names::listed))]
+pub fn field_of<'a>(con: &'a Con, name: &Name) -> Option<&'a Var>
+    ensures { option_copied result ≡ find (λ (f : Var). bytes_eq f.name name.now) con.now.fields }
+{
+    for field in con.fields.as_slice() {
+        if field.name == *name {
+            return Some(field);
+        }
+    }
+    None
 }
 
 /// How large a sequent is, from the numbers that its terms keep: linear in the number of hypotheses and in the types of the context.

@@ -1,5 +1,5 @@
 //! The laws of typing. Source: Métayer and Voisin, The Event-B Mathematical Language.
-ghost use Rattle.ev_typing.specs.TypingLaws.{TypeIsUnique, ShiftKeepsTypes, InstKeepsTypes, SubstKeepsTypes, FillKeepsTypes, InstanceKeepsTypes, WholeKeepsTypes, WholeKeepsProper, SignaturesAreProper};
+ghost use Rattle.ev_typing.specs.TypingLaws.{TypeIsUnique, ShiftKeepsTypes, InstKeepsTypes, SubstitutionKeepsTypes, FillKeepsTypes, InstanceKeepsTypes, WholeKeepsTypes, WholeKeepsProper, SignaturesAreProper};
 
 /// A term has at most one type.
 pub fn type_is_unique()
@@ -10,7 +10,7 @@ pub fn type_is_unique()
 pub fn types_are_kept()
     ensures shift { ShiftKeepsTypes }
     ensures inst { InstKeepsTypes }
-    ensures substitute { SubstKeepsTypes }
+    ensures substitute { SubstitutionKeepsTypes }
     ensures arguments { FillKeepsTypes }
     ensures instantiate { InstanceKeepsTypes }
 {}

@@ -10,7 +10,7 @@ use Rattle.ev_terms.specs.declared.types.Tys.{Tys}
 use Rattle.ev_terms.specs.declared.types.Sym.TheVariants.{User}
 use Rattle.ev_terms.specs.Term.{Term, var, node, terms}
 use Rattle.ev_terms.specs.Measures.{size, depth}
-use Rattle.ev_terms.specs.Subst.{shift, type_inst, type_at}
+use Rattle.ev_terms.specs.Substitution.{shift, type_inst, type_at}
 use Rattle.ev_terms.proofs.ListLaws.{size-shift, depth-shift}
 use Rattle.ev_typing.specs.declared.typing.Entry.{Entry}
 use Rattle.ev_typing.specs.declared.typing.Signature.{Signature}

@@ -7,7 +7,7 @@ use Rattle.ev_terms.specs.declared.extents.Extent.{Extent}
 use Rattle.ev_terms.specs.Term.{Term, Terms, var, lit, node, terms, var_of}
 use Rattle.ev_terms.specs.Symbols.{binds}
 use Rattle.ev_terms.specs.Measures.{size, sizes, depth, depths, types_size, types_depth, loose, all_loose, highest, capped}
-use Rattle.ev_terms.specs.Subst.{shift, inst, insts, lifts, entry, subst as put, fill}
+use Rattle.ev_terms.specs.Substitution.{shift, inst, insts, lifts, entry, substitute as put, fill}
 use Rattle.ev_terms.proofs.Children as children
 use Rattle.ev_wd.specs.Limits.{IsSmall, greatest_size, greatest_depth}
 use Rattle.ev_wd.proofs.Small.{within_small}

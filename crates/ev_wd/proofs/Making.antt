@@ -9,7 +9,7 @@ use Rattle.ev_terms.specs.Types.{more}
 use Rattle.ev_terms.specs.Term.{Term, Terms, var, lit, node, nil, cons}
 use Rattle.ev_terms.specs.Symbols.{binds}
 use Rattle.ev_terms.specs.Measures.{size, sizes, depth, depths, types_size, types_depth}
-use Rattle.ev_terms.specs.Subst.{inst, entry, subst as put}
+use Rattle.ev_terms.specs.Substitution.{inst, entry, substitute as put}
 use Rattle.ev_terms.proofs.Children as children
 use Rattle.ev_terms.proofs.Subst.{ren, rens, lift_rens, ren-is_inst}
 use Rattle.ev_typing.specs.Occurs.{has_var}

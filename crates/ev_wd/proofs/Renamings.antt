@@ -5,7 +5,7 @@ use Rattle.std.proofs.lemmas.Bool.Decides.{nat_tests}
 use Rattle.ev_terms.specs.declared.types.Tys.{Tys}
 use Rattle.ev_terms.specs.declared.types.Sym.{Sym}
 use Rattle.ev_terms.specs.Term.{Term, Terms, var, lit, node, var_of}
-use Rattle.ev_terms.specs.Subst.{shift_var, inst, lifts}
+use Rattle.ev_terms.specs.Substitution.{shift_var, inst, lifts}
 use Rattle.ev_terms.proofs.Children as children
 use Rattle.ev_terms.proofs.ListLaws.{inst_closed}
 use Rattle.ev_terms.proofs.Laws.{inst-id, lifts-past}

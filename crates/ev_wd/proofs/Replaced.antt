@@ -10,7 +10,7 @@ use Rattle.ev_terms.specs.Types.{type_list}
 use Rattle.ev_terms.specs.Term.{Term, Terms, var, lit, node, nil, cons, terms, term_list}
 use Rattle.ev_terms.specs.Symbols.{binds}
 use Rattle.ev_terms.specs.Measures.{loose}
-use Rattle.ev_terms.specs.Subst.{shift_var, shift, lift, lifts, inst, insts, entry, instance, type_inst, type_at}
+use Rattle.ev_terms.specs.Substitution.{shift_var, shift, lift, lifts, inst, insts, entry, instance, type_inst, type_at}
 use Rattle.ev_terms.proofs.Subst.{lift_rens, shift_one, shift-inst}
 use Rattle.ev_terms.proofs.Laws.{lifts-below, lifts-past, lifts-lifts}
 use Rattle.ev_terms.proofs.AnyLaws.{inst-under_binders, inst-of_fill}
@@ -29,7 +29,7 @@ use Rattle.ev_wd.specs.declared.rows.Demand.TheVariants.{Nothing, Application, Q
 use Rattle.ev_wd.specs.Makers.{make_imp, make_or, joined}
 use Rattle.ev_wd.specs.Demands.{rule_of, parts_of}
 use Rattle.ev_wd.specs.WellDefined.{is_made_by, parts_of_condition, parts_of_destructor, parts_of_symbol, guarded, closed_over, wd_base, wd, wds}
-use Rattle.ev_wd.specs.ConditionLaws.{IsDefined, ConditionOfShift, ConditionOfSubst}
+use Rattle.ev_wd.specs.ConditionLaws.{IsDefined, ConditionOfShift, ConditionOfSubstitution}
 use Rattle.ev_wd.proofs.Making.{no_truth}
 use Rattle.ev_wd.proofs.Destructing.{length-types}
 use Rattle.ev_wd.proofs.Rules.{RuleCases, rule_cases, args_or, some_out, some_symbol, typed_loose, child_count, IsGoodUse, IsGoodSymbol, good_symbol}
@@ -235,5 +235,5 @@ entries_pure env w C As ts h g = record {
       (cases_lt i n);
 }
 
-pub subst_law : ConditionOfSubst
+pub subst_law : ConditionOfSubstitution
 subst_law env w C As ts h g t A k = wd-inst env w t (C ++ reverse As) A k (entry ts) (entries_pure env w C As ts h g)

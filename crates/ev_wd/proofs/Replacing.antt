@@ -11,7 +11,7 @@ use Rattle.ev_terms.specs.declared.types.Sym.TheVariants.{Base, User}
 use Rattle.ev_terms.specs.Types.{more}
 use Rattle.ev_terms.specs.Term.{Term, Terms, var, lit, node, nil, cons}
 use Rattle.ev_terms.specs.Symbols.{binds}
-use Rattle.ev_terms.specs.Subst.{shift_var, shift, shifts, lift, lifts, inst, insts}
+use Rattle.ev_terms.specs.Substitution.{shift_var, shift, shifts, lift, lifts, inst, insts}
 use Rattle.ev_terms.proofs.Subst.{inst-inst}
 use Rattle.ev_terms.proofs.Laws.{lifts-below, lifts-past, lifts-lifts, inst-id, shift-shift_merge}
 use Rattle.ev_terms.proofs.AnyLaws.{inst-of_shift, inst-under_binders}

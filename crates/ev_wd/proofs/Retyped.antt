@@ -11,7 +11,7 @@ use Rattle.ev_terms.specs.Types.{pow, more, type_list}
 use Rattle.ev_terms.specs.Term.{Term, Terms, var, lit, node, nil, cons, terms, term_list}
 use Rattle.ev_terms.specs.Symbols.{binds}
 use Rattle.ev_terms.specs.Measures.{type_params}
-use Rattle.ev_terms.specs.Subst.{shift, fill, instance, type_inst, types_inst, type_at, retype, retypes}
+use Rattle.ev_terms.specs.Substitution.{shift, fill, instance, type_inst, types_inst, type_at, retype, retypes}
 use Rattle.ev_terms.proofs.ListLaws.{retype-shift, retype-inst, retype-retype, type_inst-type_inst}
 use Rattle.ev_terms.proofs.AnyLaws.{retype-of_fill, retype_below, type_inst_below}
 use Rattle.ev_terms.proofs.Shifts.{retypes-terms}

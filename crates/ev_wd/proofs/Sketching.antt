@@ -7,7 +7,7 @@ use Rattle.std.proofs.lemmas.Bool.Decides.{nat_tests}
 use Rattle.ev_terms.specs.declared.types.Ty.{Ty}
 use Rattle.ev_terms.specs.Term.{Term, var, lit, node, nil, cons}
 use Rattle.ev_terms.specs.Symbols.{binds}
-use Rattle.ev_terms.specs.Subst.{shift_var, inst, lift}
+use Rattle.ev_terms.specs.Substitution.{shift_var, inst, lift}
 use Rattle.ev_terms.proofs.Subst.{inst-inst}
 use Rattle.ev_forms.specs.declared.connectives.Connective.{Connective}
 use Rattle.ev_forms.specs.declared.connectives.Connective.TheVariants.{And, Or, Implies, Iff}

@@ -10,7 +10,7 @@ use Rattle.ev_terms.specs.declared.types.Sym.TheVariants.{Base, User}
 use Rattle.ev_terms.specs.Types.{pow, prod, more, type_list}
 use Rattle.ev_terms.specs.Term.{Term, Terms, var, lit, node, nil, cons, terms, term_list, terms-term_list}
 use Rattle.ev_terms.specs.Symbols.{binds}
-use Rattle.ev_terms.specs.Subst.{shift, instance, type_inst, type_at}
+use Rattle.ev_terms.specs.Substitution.{shift, instance, type_inst, type_at}
 use Rattle.ev_terms.proofs.Subst.{ren, rens, lift_ren, lift_rens, ren-is_inst}
 use Rattle.ev_terms.proofs.Laws.{inst-id}
 use Rattle.ev_typing.specs.declared.typing.Con.{Con}

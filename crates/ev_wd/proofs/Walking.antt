@@ -4,7 +4,7 @@ use Rattle.std.proofs.lemmas.List.Sums.{fold-append}
 use Rattle.ev_terms.specs.declared.types.Tys.{Tys}
 use Rattle.ev_terms.specs.declared.types.Sym.{Sym}
 use Rattle.ev_terms.specs.Term.{Term, Terms, var, lit, node, terms, term_list-terms}
-use Rattle.ev_terms.specs.Subst.{type_at}
+use Rattle.ev_terms.specs.Substitution.{type_at}
 use Rattle.ev_terms.specs.Measures.{depth, depths}
 use Rattle.ev_terms.proofs.Children as children
 use Rattle.ev_typing.specs.Env.{Env}

@@ -4,7 +4,7 @@ use Rattle.std.proofs.Common.{ap, sym, ◌∙◌, refl}
 use Rattle.ev_terms.specs.declared.types.Ty.{Ty}
 use Rattle.ev_terms.specs.declared.types.Sym.TheVariants.{Base, User}
 use Rattle.ev_terms.specs.Term.{Term, Terms, var, lit, node, nil, cons, term_list}
-use Rattle.ev_terms.specs.Subst.{type_inst, type_at}
+use Rattle.ev_terms.specs.Substitution.{type_inst, type_at}
 use Rattle.ev_typing.specs.Profiles.{base_profile}
 use Rattle.ev_typing.specs.Env.{Env, find_symbol, symbols, profile}
 use Rattle.ev_typing.specs.Typing.{Typed, AreTyped, inside}

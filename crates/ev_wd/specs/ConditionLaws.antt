@@ -4,7 +4,7 @@ use Rattle.std.specs.List.{AllByRecursion}
 use Rattle.ev_terms.specs.declared.types.Ty.{Ty, Prop}
 use Rattle.ev_terms.specs.declared.types.Tys.{Tys}
 use Rattle.ev_terms.specs.Term.{Term, terms}
-use Rattle.ev_terms.specs.Subst.{shift, subst, instance}
+use Rattle.ev_terms.specs.Substitution.{shift, substitute, instance}
 use Rattle.ev_typing.specs.Env.{Env}
 use Rattle.ev_typing.specs.Typing.{Typed, AreTyped}
 use Rattle.ev_typing.specs.WellFormed.{IsWellFormed}
@@ -26,9 +26,9 @@ abbrev pub IsDefined : Env → Term → Type 0
 IsDefined env t = (wd env t ≡ truth) × (t ≡ truth → ⊥)
 
 -- a substitution of such terms goes into the condition
-abbrev pub ConditionOfSubst : Type 0
-ConditionOfSubst = (env : Env) → IsWellFormed env → (C As : List Ty) (ts : List Term) → AreTyped env C (terms ts) As → AllByRecursion (IsDefined env) ts →
-    (t : Term) (A : Ty) → Typed env (C ++ reverse As) t A → wd env (subst t ts) ≡ subst (wd env t) ts
+abbrev pub ConditionOfSubstitution : Type 0
+ConditionOfSubstitution = (env : Env) → IsWellFormed env → (C As : List Ty) (ts : List Term) → AreTyped env C (terms ts) As → AllByRecursion (IsDefined env) ts →
+    (t : Term) (A : Ty) → Typed env (C ++ reverse As) t A → wd env (substitute t ts) ≡ substitute (wd env t) ts
 
 -- and so do types
 abbrev pub ConditionOfInstance : Type 0

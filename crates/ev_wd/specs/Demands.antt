@@ -4,7 +4,7 @@ use Rattle.ev_terms.specs.declared.types.Ty.{Ty, Int}
 use Rattle.ev_terms.specs.declared.types.Tys.{Tys}
 use Rattle.ev_terms.specs.Types.{pow, prod}
 use Rattle.ev_terms.specs.Term.{Term, var, lit}
-use Rattle.ev_terms.specs.Subst.{shift, type_at}
+use Rattle.ev_terms.specs.Substitution.{shift, type_at}
 use Rattle.ev_forms.specs.Forms.{neg, imp, forall, exists, eq, mem, less, at_most, finite, whole, empty, domain, partial_functions}
 use Rattle.ev_wd.specs.Rows.{and_row, or_row, implies_row, for_all_row, for_some_row, over_row, mod_row, power_row, set_row, big_inter_row, apply_row, card_row, min_row, max_row}
 use Rattle.ev_wd.specs.declared.rows.Rule.{Rule}

@@ -3,7 +3,7 @@
 use Rattle.std.specs.Prelude.{pred, ◌||◌, List, fold, if◌then◌else◌}
 use Rattle.ev_terms.specs.declared.types.Ty.{Ty}
 use Rattle.ev_terms.specs.Term.{Term, var}
-use Rattle.ev_terms.specs.Subst.{inst}
+use Rattle.ev_terms.specs.Substitution.{inst}
 use Rattle.ev_typing.specs.Occurs.{has_var}
 use Rattle.ev_forms.specs.Forms.{truth, is_truth, conj, disj, imp, forall}
 

@@ -6,7 +6,7 @@ use Rattle.ev_terms.specs.declared.types.Tys.{Tys}
 use Rattle.ev_terms.specs.declared.types.Sym.{Sym}
 use Rattle.ev_terms.specs.declared.types.Sym.TheVariants.{Base, User}
 use Rattle.ev_terms.specs.Term.{Term, Terms, var, lit, node, nil, cons, term_list}
-use Rattle.ev_terms.specs.Subst.{shift, fill, instance, type_inst, type_at}
+use Rattle.ev_terms.specs.Substitution.{shift, fill, instance, type_inst, type_at}
 use Rattle.ev_typing.specs.declared.typing.Con.{Con}
 use Rattle.ev_typing.specs.Env.{Env, Name, Symbol, ConOf, DesOf, ConstantOf, DirectOf, RecursiveOf, find_symbol, field_types}
 use Rattle.ev_forms.specs.Forms.{truth, exists_all, eq, vars, call}

@@ -1,5 +1,5 @@
 //! The laws of well-definedness conditions.
-ghost use Rattle.ev_wd.specs.ConditionLaws.{ConditionIsTyped, ConditionOfShift, ConditionOfSubst, ConditionOfInstance, ConditionOverWhole};
+ghost use Rattle.ev_wd.specs.ConditionLaws.{ConditionIsTyped, ConditionOfShift, ConditionOfSubstitution, ConditionOfInstance, ConditionOverWhole};
 
 /// The condition of a typed term is a predicate in the same context.
 pub fn condition_is_typed()
@@ -13,7 +13,7 @@ pub fn condition_of_shift()
 
 /// A substitution of terms that are always defined, none of them `true`, goes into the condition.
 pub fn condition_of_substitution()
-    ensures { ConditionOfSubst }
+    ensures { ConditionOfSubstitution }
 {}
 
 /// Types go into the condition.

@@ -2,7 +2,7 @@
 ghost use Rattle.std.specs.Prelude.{◌≡◌, ◌≤◌, ◌^◌};
 ghost use Rattle.ev_terms.specs.Term.{terms};
 ghost use Rattle.ev_terms.specs.Measures.{size, sizes, depth, depths, capped};
-ghost use Rattle.ev_terms.specs.Subst.{inst, insts, lifts, entry};
+ghost use Rattle.ev_terms.specs.Substitution.{inst, insts, lifts, entry};
 
 use ev_forms::node_parts;
 use ev_terms::{Extent, Tree, binds, extent, loose, types_extent};

@@ -25,4 +25,3 @@ pub use condition_laws::{
 };
 pub use conditions::well_defined;
 pub use faults::WdFault;
-pub use limits::{DEPTH_LIMIT, SIZE_LIMIT};

@@ -6,13 +6,8 @@ ghost use Rattle.ev_wd.specs.declared.faults.WdFault.TheVariants.{TooLarge};
 
 use crate::drafts::Draft;
 use crate::faults::WdFault;
+use ev_terms::limits::{DEPTH_LIMIT, SIZE_LIMIT};
 use ev_terms::{Extent, Tree, extent};
-
-/// The greatest size of a formula, in nodes.
-pub const SIZE_LIMIT: u64 = 65536;
-
-/// The greatest depth of a formula.
-pub const DEPTH_LIMIT: u64 = 512;
 
 /// Whether size and depth are within the limits.
 pub(crate) fn is_within(extent: Extent) -> bool

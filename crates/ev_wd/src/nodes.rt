@@ -3,7 +3,7 @@ ghost use Rattle.std.specs.Prelude.{◌≡◌, IfOk, Err};
 ghost use Rattle.ev_terms.specs.Term.{node, nil, cons};
 ghost use Rattle.ev_terms.specs.declared.types.Sym.TheVariants.{Base};
 ghost use Rattle.ev_terms.specs.declared.types.Ty.{Int};
-ghost use Rattle.ev_terms.specs.Subst.{type_at};
+ghost use Rattle.ev_terms.specs.Substitution.{type_at};
 ghost use Rattle.ev_forms.specs.Forms.{finite, whole, empty, domain, partial_functions, at_most, less, neg, eq};
 ghost use Rattle.ev_terms.specs.Term.{lit};
 ghost use Rattle.ev_wd.specs.Limits.{IsSmall};
@@ -12,29 +12,16 @@ ghost use Rattle.ev_wd.specs.declared.faults.WdFault.TheVariants.{TooLarge};
 
 use crate::faults::WdFault;
 use crate::limits::is_small;
-use crate::type_nodes::{one_type, pair_of, set_of, two_types, type_at};
+use crate::type_nodes::{one_type, two_types, type_at};
 use ev_forms::{
     Binder, Connective, Relation, make_bound, make_joined, make_negation, make_related,
 };
+use ev_terms::symbols::{AT_MOST, DOM, EMPTY, FINITE, LESS, PARTIAL_FUNCTION, TYPE};
 use ev_terms::{
     NoMemory, Sym, Tree, Trees, TryCopy, Ty, Tys, make_lit, make_node, make_var, shift, shift_fits,
 };
+use ev_typing::{pair_of, set_of};
 use std::alloc::Global;
-
-/// The rows of the symbols that conditions are made of, from 0.
-const LESS: u16 = 12;
-
-const AT_MOST: u16 = 13;
-
-const FINITE: u16 = 14;
-
-const WHOLE: u16 = 25;
-
-const EMPTY: u16 = 28;
-
-const PARTIAL_FUNCTIONS: u16 = 39;
-
-const DOMAIN: u16 = 46;
 
 fn leaf(alloc: Global, row: u16, types: Tys) -> Result<Tree, NoMemory>
     ensures { IfOk result (λ t. t ≡ node (Base row) types nil) }
@@ -71,7 +58,7 @@ pub(crate) fn make_finite(alloc: Global, ty: Ty, set: &Tree) -> Result<Tree, NoM
 fn make_whole(alloc: Global, ty: Ty) -> Result<Tree, NoMemory>
     ensures { IfOk result (λ t. t ≡ whole ty) }
 {
-    leaf(alloc, WHOLE, one_type(alloc, ty)?)
+    leaf(alloc, TYPE, one_type(alloc, ty)?)
 }
 
 /// `{}`
@@ -139,7 +126,7 @@ pub(crate) fn is_in_domain(
     ensures { IfOk result (λ t. t ≡ is_in_domain (type_at types.now 0) (type_at types.now 1) function.now argument.now) }
 {
     let both = two_types(alloc, type_at(alloc, types, 0)?, type_at(alloc, types, 1)?)?;
-    let domain = with_one(alloc, DOMAIN, both, function.try_copy(alloc)?)?;
+    let domain = with_one(alloc, DOM, both, function.try_copy(alloc)?)?;
     let argument = argument.try_copy(alloc)?;
     make_related(
         alloc,
@@ -156,7 +143,7 @@ fn make_functions(alloc: Global, from: Ty, to: Ty) -> Result<Tree, NoMemory>
 {
     let both = two_types(alloc, from.try_copy(alloc)?, to.try_copy(alloc)?)?;
     let all = make_whole(alloc, from)?;
-    with_two(alloc, PARTIAL_FUNCTIONS, both, all, make_whole(alloc, to)?)
+    with_two(alloc, PARTIAL_FUNCTION, both, all, make_whole(alloc, to)?)
 }
 
 /// `f : TYPE(A) +-> TYPE(B)`, for type arguments of an application.

@@ -13,8 +13,9 @@ use crate::nodes::{
     is_positive, make_at_most, make_finite,
 };
 use crate::rows::Demand;
-use crate::type_nodes::{set_of, type_at};
+use crate::type_nodes::type_at;
 use ev_terms::{NoMemory, Tree, Trees, Ty, Tys, make_var};
+use ev_typing::set_of;
 use std::alloc::Global;
 
 /// The only child of a node with one.

@@ -1,7 +1,7 @@
 //! Terms under binders of which some are dropped.
 ghost use Rattle.std.specs.Prelude.{◌≡◌, ◌≤◌, map, IfOk};
 ghost use Rattle.ev_terms.specs.Term.{node, terms};
-ghost use Rattle.ev_terms.specs.Subst.{inst, lifts};
+ghost use Rattle.ev_terms.specs.Substitution.{inst, lifts};
 ghost use Rattle.ev_wd.specs.inner.Renaming.{new_number, renaming};
 
 use ev_forms::node_parts;

@@ -2,7 +2,9 @@
 ghost use Rattle.std.specs.Prelude.{◌≡◌};
 ghost use Rattle.ev_wd.specs.Demands.{rule_of, demand_of};
 
-use ev_terms::types::{FOR_ALL, FOR_SOME, SET_FORMER};
+use ev_terms::symbols::{
+    AND, APPLY, BIG_INTER, CARD, FOR_ALL, FOR_SOME, IMPLIES, MAX, MIN, MOD, OR, OVER, POWER, SET,
+};
 
 /// How the conditions of a base symbol's children come together.
 #[derive(Debug, Clone, Copy, PartialEq, Eq)]
@@ -31,36 +33,13 @@ pub enum Demand {
     Maximum,
 }
 
-/// The rows of these symbols in the table of base symbols, from 0.
-const AND: u16 = 3;
-
-const OR: u16 = 4;
-
-const IMPLIES: u16 = 5;
-
-const DIVIDE: u16 = 22;
-
-const MOD: u16 = 23;
-
-const POWER: u16 = 24;
-
-const INTER: u16 = 37;
-
-const APPLY: u16 = 56;
-
-const CARD: u16 = 61;
-
-const MIN: u16 = 62;
-
-const MAX: u16 = 63;
-
 pub(crate) fn demand_of(row: u16) -> Demand
     ensures { result ≡ demand_of row }
 {
     if row == APPLY {
         return Demand::Application;
     }
-    if row == DIVIDE {
+    if row == OVER {
         return Demand::Quotient;
     }
     if row == MOD {
@@ -72,7 +51,7 @@ pub(crate) fn demand_of(row: u16) -> Demand
     if row == CARD {
         return Demand::Cardinality;
     }
-    if row == INTER {
+    if row == BIG_INTER {
         return Demand::Intersection;
     }
     if row == MIN {
@@ -93,7 +72,7 @@ pub(crate) fn rule_of(row: u16) -> Rule
     if row == OR {
         return Rule::Either;
     }
-    if (row == FOR_ALL || row == FOR_SOME) || row == SET_FORMER {
+    if (row == FOR_ALL || row == FOR_SOME) || row == SET {
         return Rule::Bound;
     }
     Rule::Children(demand_of(row))

@@ -1,6 +1,6 @@
 //! Conditions as they are put together. A quantifier that is dropped lowers nothing yet: that is done once, when the condition is built.
 ghost use Rattle.std.specs.Prelude.{◌≡◌, ◌∷◌, ◌↔◌, IsTrue, IfOk};
-ghost use Rattle.ev_terms.specs.Subst.{inst};
+ghost use Rattle.ev_terms.specs.Substitution.{inst};
 ghost use Rattle.ev_forms.specs.Forms.{truth, conj, forall};
 ghost use Rattle.ev_forms.specs.Connectives.{joined};
 ghost use Rattle.ev_wd.specs.Makers.{lowered};

@@ -5,7 +5,7 @@ ghost use Rattle.std.specs.List.{list_any};
 ghost use Rattle.ev_terms.specs.Term.{Term, node, terms};
 ghost use Rattle.ev_terms.specs.Measures.{all_loose};
 ghost use Rattle.ev_terms.specs.declared.types.Sym.TheVariants.{User};
-ghost use Rattle.ev_terms.specs.Subst.{fill, instance, type_inst, type_at};
+ghost use Rattle.ev_terms.specs.Substitution.{fill, instance, type_inst, type_at};
 ghost use Rattle.ev_typing.specs.declared.typing.Var.{Var};
 ghost use Rattle.ev_typing.specs.Env.{look_up, symbols, con_symbols, find_symbol};
 ghost use Rattle.ev_forms.specs.Forms.{exists_all, vars};
@@ -17,9 +17,10 @@ ghost use Rattle.ev_wd.specs.declared.faults.WdFault.TheVariants.{TooLarge};
 
 use crate::faults::WdFault;
 use crate::filled::filled_extent;
-use crate::limits::{DEPTH_LIMIT, is_small, is_within};
+use crate::limits::{is_small, is_within};
 use crate::parts::{one_part, only_of};
 use ev_forms::{Binder, Relation, make_bound, make_related};
+use ev_terms::limits::DEPTH_LIMIT;
 use ev_terms::{
     Name, NoMemory, Sym, Tree, Trees, TryCopy, Ty, Tys, instantiate_type, instantiate_types, loose,
     make_node, make_var, shift, shift_fits, substitute,
@@ -279,7 +280,6 @@ pub(crate) fn symbol_parts(
     ensures found { IfOk result (λ ts. ts ≡ parts_of_symbol (find_symbol env.now name.now) types.now children.now) }
     ensures large { result ≡ Err TooLarge → (P : Term) → ¬ IsSmall (joined_after P (parts_of_symbol (find_symbol env.now name.now) types.now children.now)) }
 {
-    let _opened = env.count();
     match env.symbol(name) {
         Some(entry) => entry_parts(alloc, entry, name, types, children),
         None => Ok(Trees::new(alloc)),

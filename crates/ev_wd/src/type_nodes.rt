@@ -1,11 +1,10 @@
 //! Types, and lists of type arguments.
 ghost use Rattle.std.specs.Prelude.{◌≡◌, IfOk};
-ghost use Rattle.ev_terms.specs.Types.{pow, prod};
-ghost use Rattle.ev_terms.specs.Subst.{type_at};
+ghost use Rattle.ev_terms.specs.Substitution.{type_at};
 ghost use Rattle.ev_forms.specs.Base.{at_type};
 ghost use Rattle.ev_forms.specs.Forms.{two_types};
 
-use ev_terms::{NoMemory, Shared, TryCopy, Ty, Tys};
+use ev_terms::{NoMemory, TryCopy, Ty, Tys};
 use std::alloc::Global;
 
 /// The type of the argument, from 0; where there is none, the parameter of that number.
@@ -18,30 +17,12 @@ pub(crate) fn type_at(alloc: Global, types: &Tys, i: u32) -> Result<Ty, NoMemory
     }
 }
 
-/// The sets of members of the type.
-#[tactic(auto, using(crate::proofs::Forming::types))]
-pub(crate) fn set_of(alloc: Global, ty: Ty) -> Result<Ty, NoMemory>
-    ensures { IfOk result (λ a. a ≡ pow ty) }
-{
-    Ok(Ty::Pow(Shared::new(alloc, ty)?))
-}
-
-#[tactic(auto, using(crate::proofs::Forming::types))]
-pub(crate) fn pair_of(alloc: Global, first: Ty, second: Ty) -> Result<Ty, NoMemory>
-    ensures { IfOk result (λ a. a ≡ prod first second) }
-{
-    let first = Shared::new(alloc, first)?;
-    let second = Shared::new(alloc, second)?;
-    Ok(Ty::Prod(first, second))
-}
-
 /// One type argument.
 #[tactic(auto, using(crate::proofs::Forming::types))]
 pub(crate) fn one_type(alloc: Global, ty: Ty) -> Result<Tys, NoMemory>
     ensures { IfOk result (λ As. As ≡ at_type ty) }
 {
-    let ty = Shared::new(alloc, ty)?;
-    Ok(Tys::More(ty, Shared::new(alloc, Tys::Empty)?))
+    Tys::one(alloc, ty)
 }
 
 /// Two type arguments.
@@ -49,7 +30,5 @@ pub(crate) fn one_type(alloc: Global, ty: Ty) -> Result<Tys, NoMemory>
 pub(crate) fn two_types(alloc: Global, first: Ty, second: Ty) -> Result<Tys, NoMemory>
     ensures { IfOk result (λ As. As ≡ two_types first second) }
 {
-    let rest = one_type(alloc, second)?;
-    let first = Shared::new(alloc, first)?;
-    Ok(Tys::More(first, Shared::new(alloc, rest)?))
+    Tys::before(alloc, first, one_type(alloc, second)?)
 }

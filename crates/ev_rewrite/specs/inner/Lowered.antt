@@ -1,7 +1,7 @@
 -- What a term comes from by a shift.
 use Rattle.std.specs.Prelude.{◌≡◌, ℕ, List, Option, MatchOption}
 use Rattle.ev_terms.specs.Term.{Term, terms}
-use Rattle.ev_terms.specs.Subst.{shift, shifts}
+use Rattle.ev_terms.specs.Substitution.{shift, shifts}
 
 -- the term that is shifted, or that none is
 abbrev pub IsLowered : ℕ → ℕ → Term → Option Term → Type 0

@@ -3,7 +3,7 @@ use Rattle.std.specs.Prelude.{◌≡◌, ◌+◌, ◌-◌, ◌<◌, ◌||◌, �
 use Rattle.ev_terms.specs.declared.types.Ty.{Ty}
 use Rattle.ev_terms.specs.declared.types.Tys.{Tys}
 use Rattle.ev_terms.specs.Term.{Term, Terms}
-use Rattle.ev_terms.specs.Subst.{lifts, inst, insts, entry, type_at, type_inst, types_inst, retype, retypes}
+use Rattle.ev_terms.specs.Substitution.{lifts, inst, insts, entry, type_at, type_inst, types_inst, retype, retypes}
 use Rattle.ev_typing.specs.TypeLists.{types}
 use Rattle.ev_typing.specs.Occurs.{has_param, have_param, mentions_param, mention_param, has_var, have_var}
 use Rattle.ev_rewrite.specs.declared.slots.Found.{Found}

@@ -1,5 +1,5 @@
 ghost use Rattle.std.specs.Prelude.{◌≡◌, ◌↔◌, map, IsTrue, IfOk};
-ghost use Rattle.ev_terms.specs.Subst.{retype, type_at, instance};
+ghost use Rattle.ev_terms.specs.Substitution.{retype, type_at, instance};
 
 use super::measures::bounds_of;
 use super::{App, Node, Tree, Trees, make_node};

@@ -1,6 +1,6 @@
 ghost use Rattle.std.specs.Prelude.{◌≡◌, ◌≤◌, ◌+◌, ◌^◌, max};
 ghost use Rattle.ev_terms.specs.Term.{node, terms};
-ghost use Rattle.ev_terms.specs.View.{Bound, BoundAll};
+ghost use Rattle.ev_terms.specs.inner.View.{Bound, BoundAll};
 ghost use Rattle.ev_terms.specs.Measures.{loose, size, sizes, depth, depths, type_size, types_size, type_depth, types_depth, type_params, types_params, capped};
 
 use super::{App, Node, Tree};
@@ -134,10 +134,13 @@ pub fn type_extent(ty: &Ty) -> Extent
 pub fn types_extent(types: &Tys) -> Extent
     ensures { result ≡ record { size = capped (types_size types.now); depth = capped (types_depth types.now) } }
 {
-    match types {
-        Tys::Empty => Extent { size: 0, depth: 0 },
-        Tys::More(a, rest) => beside(type_extent(a.get()), types_extent(rest.get())),
+    let mut all = Extent { size: 0, depth: 0 };
+    let mut left = types;
+    while let Tys::More(ty, rest) = left {
+        all = beside(all, type_extent(ty.get()));
+        left = rest.get();
     }
+    all
 }
 
 /// One more than the greatest type parameter of a type, or 0.
@@ -161,8 +164,11 @@ pub fn type_params(ty: &Ty) -> u64
 pub fn types_params(types: &Tys) -> u64
     ensures { result ≡ types_params types.now }
 {
-    match types {
-        Tys::Empty => 0,
-        Tys::More(a, rest) => type_params(a.get()).max(types_params(rest.get())),
+    let mut all = 0;
+    let mut left = types;
+    while let Tys::More(ty, rest) = left {
+        all = type_params(ty.get()).max(all);
+        left = rest.get();
     }
+    all
 }

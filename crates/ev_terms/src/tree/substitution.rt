@@ -1,7 +1,7 @@
 ghost use Rattle.std.specs.Prelude.{◌≡◌, ◌≤◌, ◌+◌, ◌^◌, map, IfOk};
 ghost use Rattle.ev_terms.specs.Term.{node, terms};
 ghost use Rattle.ev_terms.specs.Measures.{highest, all_highest};
-ghost use Rattle.ev_terms.specs.Subst.{shift, shifts, inst, insts, lifts, entry, subst};
+ghost use Rattle.ev_terms.specs.Substitution.{shift, shifts, inst, insts, lifts, entry, substitute};
 
 use super::measures::loose;
 use super::{App, Node, Tree, Trees, make_node, make_var};
@@ -55,8 +55,8 @@ fn shift_all(alloc: Global, trees: &[Tree], from: u64, by: u32) -> Result<Trees,
 
 /// Variable i becomes the i-th term for i below the length of `terms`, and later ones fall by the length. Closed parts are shared.
 pub fn substitute(alloc: Global, tree: &Tree, terms: &Trees) -> Result<Tree, NoMemory>
-    requires { highest (subst tree.now terms.now) ≤ 2 ^ 32 }
-    ensures { IfOk result (λ t. t ≡ subst tree.now terms.now) }
+    requires { highest (substitute tree.now terms.now) ≤ 2 ^ 32 }
+    ensures { IfOk result (λ t. t ≡ substitute tree.now terms.now) }
 {
     substitute_under(alloc, tree, 0, terms.as_slice())
 }

@@ -2,7 +2,7 @@ ghost use Rattle.std.specs.Prelude.{◌≡◌, ◌≤◌, ◌++◌, ◌∷◌, �
 ghost use Rattle.std.specs.List.{list_any};
 ghost use Rattle.indexmap.specs.IndexMap.{get, spare};
 ghost use Rattle.ev_typing.specs.Env.{names};
-ghost use Rattle.ev_typing.specs.Numbered.{con_names, all_con_names};
+ghost use Rattle.ev_typing.specs.inner.Numbered.{con_names, all_con_names};
 
 use crate::typing::{Con, Entry};
 use ev_terms::{Name, NoMemory, TryCopy};

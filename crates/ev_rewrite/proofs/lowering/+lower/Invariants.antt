@@ -1,6 +1,6 @@
 use Rattle.std.proofs.Common.{◌≡◌, take}
 use Rattle.ev_terms.specs.Term.{terms}
-use Rattle.ev_terms.specs.Subst.{shifts}
+use Rattle.ev_terms.specs.Substitution.{shifts}
 use Rattle.ev_terms.proofs.Children.{rank, rank_children, rank_all}
 use Rattle.ev_rewrite.proofs.lowering.+lower.Given as goal
 

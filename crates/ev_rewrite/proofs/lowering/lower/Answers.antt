@@ -1,5 +1,5 @@
 use Rattle.std.proofs.Common.{ap, ◌∙◌}
-use Rattle.ev_terms.specs.Subst.{shift}
+use Rattle.ev_terms.specs.Substitution.{shift}
 use Rattle.ev_rewrite.proofs.LoweredSteps.{lowered_zero}
 use Rattle.ev_rewrite.proofs.lowering.lower.Goals as goal
 

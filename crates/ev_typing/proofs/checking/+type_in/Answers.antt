@@ -2,8 +2,8 @@ use Rattle.std.proofs.Common.{◌∷◌, [], ◌++◌, ap, sym, ◌∙◌, subst
 use Rattle.std.specs.Prelude.{◌↔◌, IsTrue}
 use Rattle.std.proofs.lemmas.Result.{IfOk-weaker}
 use Rattle.ev_terms.specs.Term.{terms}
-use Rattle.ev_typing.specs.Typing.{AreTyped}
-use Rattle.ev_typing.specs.Instances.{IsTypeOf}
+use Rattle.ev_typing.specs.Env.{Env}
+use Rattle.ev_typing.specs.Typing.{AreTyped, IsTypeOf}
 use Rattle.ev_typing.proofs.Checks.{other_length, inside_empty, inside_one, found_same, node_of}
 use Rattle.ev_typing.proofs.checking.+type_in.Goals as goal
 
@@ -36,3 +36,9 @@ type_in-returns-in-Some-types-clause-typed t c =
     subst (λ u. IsTypeOf c.args.env.now c.args.context.now.items u o)
     (sym (node_of c.args.tree.now c.in-Some.sym.now c.in-Some-types.types.now c.children.result.now c.in-Some.ensures c.in-Some-types.ensures c.children.ensures)) h)
     c.node_type.ensures.typed
+
+pub type_in-returns-in-None-clause-typed : goal.type_in-returns-in-None-clause-typed
+type_in-returns-in-None-clause-typed t c =
+    IfOk-weaker c.leaf_type.result (λ o. (env : Env) → IsTypeOf env c.as_slice.result.now c.args.tree.now o)
+    (IsTypeOf c.args.env.now c.args.context.now.items c.args.tree.now)
+    (λ o h. subst (λ C. IsTypeOf c.args.env.now C c.args.tree.now o) c.as_slice.ensures.value (h c.args.env.now)) c.leaf_type.ensures

@@ -1,6 +1,6 @@
 use Rattle.std.proofs.Common.{◌≡◌, ◌++◌, map}
 use Rattle.ev_terms.specs.Types.{type_list}
-use Rattle.ev_terms.specs.Subst.{type_inst, type_at}
+use Rattle.ev_terms.specs.Substitution.{type_inst, type_at}
 use Rattle.ev_typing.proofs.instances.types_at.Given as goal
 
 abbrev pub invariant-loop-left : goal.invariant-loop-left

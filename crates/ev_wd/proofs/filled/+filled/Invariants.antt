@@ -1,7 +1,7 @@
 use Rattle.std.proofs.Common.{◌≡◌, ◌+◌, ◌≤◌, max, drop}
 use Rattle.ev_terms.specs.Term.{terms}
 use Rattle.ev_terms.specs.Measures.{sizes, depths, capped}
-use Rattle.ev_terms.specs.Subst.{insts, lifts, entry}
+use Rattle.ev_terms.specs.Substitution.{insts, lifts, entry}
 use Rattle.ev_terms.proofs.Children.{rank, rank_all}
 use Rattle.ev_wd.proofs.filled.+filled.Given as goal
 

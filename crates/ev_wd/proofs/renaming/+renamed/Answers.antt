@@ -1,7 +1,7 @@
 use Rattle.std.proofs.Common.{◌≡◌, ◌∙◌, refl}
 use Rattle.std.proofs.lemmas.Result.{IfOk-weaker}
 use Rattle.ev_terms.specs.Term.{node, terms}
-use Rattle.ev_terms.specs.Subst.{inst, lifts}
+use Rattle.ev_terms.specs.Substitution.{inst, lifts}
 use Rattle.ev_terms.proofs.Shifts.{substitute_gives}
 use Rattle.ev_wd.specs.inner.Renaming.{renaming}
 use Rattle.ev_wd.proofs.renaming.+renamed.Goals as goal

@@ -1,5 +1,5 @@
 use Rattle.std.proofs.Common.{◌≡◌, map, take}
-use Rattle.ev_terms.specs.Subst.{inst, lifts}
+use Rattle.ev_terms.specs.Substitution.{inst, lifts}
 use Rattle.ev_terms.proofs.Children.{rank, rank_children, rank_all}
 use Rattle.ev_wd.specs.inner.Renaming.{renaming}
 use Rattle.ev_wd.proofs.renaming.+renamed.Given as goal

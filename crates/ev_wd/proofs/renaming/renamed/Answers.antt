@@ -1,7 +1,7 @@
 use Rattle.std.proofs.Common.{◌≡◌, ◌∙◌, length, sym}
 use Rattle.std.proofs.lemmas.Bool.{eqb-true}
 use Rattle.std.proofs.lemmas.Result.{IfOk-weaker}
-use Rattle.ev_terms.specs.Subst.{inst}
+use Rattle.ev_terms.specs.Substitution.{inst}
 use Rattle.ev_wd.specs.inner.Renaming.{renaming}
 use Rattle.ev_wd.proofs.Renamings.{none_around}
 use Rattle.ev_wd.proofs.renaming.renamed.Goals as goal

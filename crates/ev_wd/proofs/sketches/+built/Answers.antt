@@ -1,6 +1,6 @@
 use Rattle.std.proofs.Common.{◌≡◌}
 use Rattle.std.proofs.lemmas.Result.{IfOk-weaker}
-use Rattle.ev_terms.specs.Subst.{inst}
+use Rattle.ev_terms.specs.Substitution.{inst}
 use Rattle.ev_forms.specs.Connectives.{joined}
 use Rattle.ev_forms.specs.Forms.{conj, forall}
 use Rattle.ev_wd.specs.inner.Renaming.{renaming}

@@ -2,7 +2,7 @@ use Rattle.std.proofs.Common.{◌≡◌, ◌∙◌, ◌≤◌, ap, max, rules, a
 use Rattle.ev_terms.specs.declared.extents.Extent.{Extent}
 use Rattle.ev_terms.specs.Term.{terms}
 use Rattle.ev_terms.specs.Measures.{size, depth, all_loose, capped}
-use Rattle.ev_terms.specs.Subst.{inst, lifts, entry}
+use Rattle.ev_terms.specs.Substitution.{inst, lifts, entry}
 use Rattle.ev_wd.specs.Limits.{greatest_size, greatest_depth}
 use Rattle.ev_wd.proofs.Filling.{filled_room}
 use Rattle.ev_wd.proofs.symbols.condition_at.Goals as goal

@@ -1,5 +1,5 @@
 use Rattle.std.proofs.Common.{◌≡◌, ◌++◌, drop}
-use Rattle.ev_typing.specs.Numbered.{all_con_names}
+use Rattle.ev_typing.specs.inner.Numbered.{all_con_names}
 use Rattle.ev_typing.proofs.environment.names.push_all_con_names.Given as goal
 
 abbrev pub invariant-loop-con : goal.invariant-loop-con

@@ -1,5 +1,5 @@
 use Rattle.std.proofs.Common.{◌≡◌, ◌++◌, map, drop}
-use Rattle.ev_typing.specs.Numbered.{con_names}
+use Rattle.ev_typing.specs.inner.Numbered.{con_names}
 use Rattle.ev_typing.specs.declared.typing.Var.{Var}
 use Rattle.ev_typing.proofs.environment.names.push_con_names.Given as goal
 

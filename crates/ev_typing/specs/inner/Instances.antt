@@ -1,16 +1,13 @@
 -- The types of a symbol's children and its own, at type arguments.
-use Rattle.std.specs.Prelude.{◌==◌, List, Option, Some, None, map, length, if◌then◌else◌, MatchOption}
+use Rattle.std.specs.Prelude.{◌==◌, Option, Some, None, map, length, if◌then◌else◌}
 use Rattle.std.specs.Option.{option_and_then}
-use Rattle.ev_terms.specs.declared.types.Ty.{Ty}
 use Rattle.ev_terms.specs.declared.types.Tys.{Tys}
 use Rattle.ev_terms.specs.declared.types.Sym.{Sym}
 use Rattle.ev_terms.specs.Types.{type_list}
-use Rattle.ev_terms.specs.Term.{Term}
-use Rattle.ev_terms.specs.Subst.{type_inst, type_at}
+use Rattle.ev_terms.specs.Substitution.{type_inst, type_at}
 use Rattle.ev_typing.specs.declared.instances.Instance.{Instance}
 use Rattle.ev_typing.specs.Profiles.{Profile}
 use Rattle.ev_typing.specs.Env.{Env, profile}
-use Rattle.ev_typing.specs.Typing.{Typed}
 
 -- the types put in
 abbrev pub instance_at : Tys → Profile → Instance
@@ -23,7 +20,3 @@ at_types As p = if length (type_list As) == p.params then Some (instance_at As p
 -- of a symbol, where its number of types is right
 abbrev pub instance_of : Env → Sym → Tys → Option Instance
 instance_of env s As = option_and_then (at_types As) (profile env s)
-
--- the type that the term has in the context, or that it has none
-abbrev pub IsTypeOf : Env → List Ty → Term → Option Ty → Type 0
-IsTypeOf env C t o = MatchOption o ((A : Ty) → ¬ Typed env C t A) (λ A. Typed env C t A)

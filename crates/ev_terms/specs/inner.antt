@@ -1,0 +1,3 @@
+pub mod TermCode
+pub mod View
+pub mod TreeFalls
