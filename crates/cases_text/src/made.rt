@@ -8,7 +8,9 @@ use ev_parse::{closings_of, read_item};
 use ev_syntax::pattern_reader::read_pattern;
 use ev_syntax::pattern_states::PatternPiece;
 use ev_syntax::type_reader::read_type;
-use ev_syntax::{Binder, Pattern, PatternForm, Piece, Raw, RawForm, RawType, RawTypeForm, Reader};
+use ev_syntax::{
+    Binder, FormulaForm, Pattern, PatternForm, Piece, Raw, RawType, RawTypeForm, Reader,
+};
 use ev_terms::{Name, NoMemory};
 use std::alloc::Global;
 
@@ -78,7 +80,7 @@ pub(crate) fn put_inverse_at(
     let Piece::Whole(raw, _) = piece else {
         return Ok(None);
     };
-    let inverse = Raw::new(alloc, RawForm::Inverse(raw))?;
+    let inverse = Raw::new(alloc, FormulaForm::Inverse(raw))?;
     put_raw(alloc, out, &inverse)?;
     Ok(Some(to))
 }

@@ -3,7 +3,7 @@
 use crate::texts::{put, put_number};
 use crate::types_shown::{DEPTH, put_binder, put_binders, put_param, put_pattern, put_type};
 use crate::words::put_mark;
-use ev_syntax::{Binder, Raw, RawForm};
+use ev_syntax::{Binder, FormulaForm, Raw};
 use ev_terms::NoMemory;
 use std::alloc::Global;
 
@@ -20,27 +20,32 @@ fn put_binding(
 }
 
 /// What a form is that binds names or has a type, with these.
-fn put_binding_head(alloc: Global, out: &mut Vec<u8>, form: &RawForm) -> Result<(), NoMemory> {
+fn put_binding_head(alloc: Global, out: &mut Vec<u8>, form: &FormulaForm) -> Result<(), NoMemory> {
     match form {
-        RawForm::Quantified(mark, names, _) => put_binding(alloc, out, *mark, names.as_slice()),
-        RawForm::Collected(mark, names, _, _) => put_binding(alloc, out, *mark, names.as_slice()),
-        RawForm::SetOf(binder, _) => {
+        FormulaForm::Quantified(mark, names, _) => put_binding(alloc, out, *mark, names.as_slice()),
+        FormulaForm::Collected(mark, names, _, _) => put_binding(
+            alloc,
+            out,
+            *mark,
+            names.as_slice(),
+        ),
+        FormulaForm::SetOf(binder, _) => {
             put(out, b"@set ")?;
             put_binder(alloc, out, binder)
         }
-        RawForm::Lambda(pattern, _, _) => {
+        FormulaForm::Lambda(pattern, _, _) => {
             put(out, b"% ")?;
             put_pattern(alloc, out, pattern)
         }
-        RawForm::TypeSet(ty) => {
+        FormulaForm::TypeSet(ty) => {
             put(out, b"TYPE ")?;
             put_type(alloc, out, ty)
         }
-        RawForm::OfType(_, ty) => {
+        FormulaForm::OfType(_, ty) => {
             put(out, b"oftype ")?;
             put_type(alloc, out, ty)
         }
-        RawForm::Written(ty) => {
+        FormulaForm::Written(ty) => {
             put(out, b"@type ")?;
             put_type(alloc, out, ty)
         }
@@ -49,19 +54,19 @@ fn put_binding_head(alloc: Global, out: &mut Vec<u8>, form: &RawForm) -> Result<
 }
 
 /// What a form is.
-fn put_head(alloc: Global, out: &mut Vec<u8>, form: &RawForm) -> Result<(), NoMemory> {
+fn put_head(alloc: Global, out: &mut Vec<u8>, form: &FormulaForm) -> Result<(), NoMemory> {
     match form {
-        RawForm::Word(mark) => put_mark(out, *mark),
-        RawForm::Around(mark, _) => put_mark(out, *mark),
-        RawForm::Unary(mark, _) => put_mark(out, *mark),
-        RawForm::Binary(mark, _, _) => put_mark(out, *mark),
-        RawForm::Literal(number) => put_number(alloc, out, *number),
-        RawForm::Param(number) => put_param(alloc, out, *number),
-        RawForm::Call(name, _) => put(out, name.as_slice()),
-        RawForm::Inverse(_) => put(out, b"~"),
-        RawForm::Apply(_, _) => put(out, b"@apply"),
-        RawForm::Image(_, _) => put(out, b"@image"),
-        RawForm::Members(_) => put(out, b"@members"),
+        FormulaForm::Word(mark) => put_mark(out, *mark),
+        FormulaForm::Around(mark, _) => put_mark(out, *mark),
+        FormulaForm::Unary(mark, _) => put_mark(out, *mark),
+        FormulaForm::Binary(mark, _, _) => put_mark(out, *mark),
+        FormulaForm::Literal(number) => put_number(alloc, out, *number),
+        FormulaForm::Param(number) => put_param(alloc, out, *number),
+        FormulaForm::Call(name, _) => put(out, name.as_slice()),
+        FormulaForm::Inverse(_) => put(out, b"~"),
+        FormulaForm::Apply(_, _) => put(out, b"@apply"),
+        FormulaForm::Image(_, _) => put(out, b"@image"),
+        FormulaForm::Members(_) => put(out, b"@members"),
         other => put_binding_head(alloc, out, other),
     }
 }
@@ -73,32 +78,32 @@ enum Parts<'a> {
     All(&'a [Raw]),
 }
 
-fn parts_of(form: &RawForm) -> Parts<'_> {
+fn parts_of(form: &FormulaForm) -> Parts<'_> {
     match form {
-        RawForm::Call(_, args) => Parts::All(args.as_slice()),
-        RawForm::Members(members) => Parts::All(members.as_slice()),
-        RawForm::Around(_, part) => Parts::One(part),
-        RawForm::Unary(_, part) => Parts::One(part),
-        RawForm::Inverse(part) => Parts::One(part),
-        RawForm::OfType(part, _) => Parts::One(part),
-        RawForm::Quantified(_, _, part) => Parts::One(part),
-        RawForm::SetOf(_, part) => Parts::One(part),
-        RawForm::Binary(_, first, second) => Parts::Two(first, second),
-        RawForm::Apply(first, second) => Parts::Two(first, second),
-        RawForm::Image(first, second) => Parts::Two(first, second),
-        RawForm::Collected(_, _, first, second) => Parts::Two(first, second),
-        RawForm::Lambda(_, first, second) => Parts::Two(first, second),
+        FormulaForm::Call(_, args) => Parts::All(args.as_slice()),
+        FormulaForm::Members(members) => Parts::All(members.as_slice()),
+        FormulaForm::Around(_, part) => Parts::One(part),
+        FormulaForm::Unary(_, part) => Parts::One(part),
+        FormulaForm::Inverse(part) => Parts::One(part),
+        FormulaForm::OfType(part, _) => Parts::One(part),
+        FormulaForm::Quantified(_, _, part) => Parts::One(part),
+        FormulaForm::SetOf(_, part) => Parts::One(part),
+        FormulaForm::Binary(_, first, second) => Parts::Two(first, second),
+        FormulaForm::Apply(first, second) => Parts::Two(first, second),
+        FormulaForm::Image(first, second) => Parts::Two(first, second),
+        FormulaForm::Collected(_, _, first, second) => Parts::Two(first, second),
+        FormulaForm::Lambda(_, first, second) => Parts::Two(first, second),
         _ => Parts::All(&[]),
     }
 }
 
 /// Whether a form stands without parentheses.
-fn is_bare(form: &RawForm) -> bool {
+fn is_bare(form: &FormulaForm) -> bool {
     match form {
-        RawForm::Word(_) => true,
-        RawForm::Literal(_) => true,
-        RawForm::Param(_) => true,
-        RawForm::Call(_, args) => args.is_empty(),
+        FormulaForm::Word(_) => true,
+        FormulaForm::Literal(_) => true,
+        FormulaForm::Param(_) => true,
+        FormulaForm::Call(_, args) => args.is_empty(),
         _ => false,
     }
 }

@@ -1,5 +1,5 @@
 //! The parts of elements as texts. Of a formula and of a type the outermost form is shown.
-use ev_syntax::{Raw, RawForm, RawType, RawTypeForm, all_spellings};
+use ev_syntax::{FormulaForm, Raw, RawType, RawTypeForm, all_spellings};
 use ev_terms::{Names, NoMemory};
 use ev_theory_text::{RawArgs, RawBody, RawBranch, RawCase, RawCon, RawHead, RawResult};
 use std::alloc::Global;
@@ -37,12 +37,12 @@ fn put_type(line: &mut Vec<u8>, alloc: Global, written: &RawType) -> Result<(), 
 
 pub fn put_formula(line: &mut Vec<u8>, alloc: Global, formula: &Raw) -> Result<(), NoMemory> {
     match formula.form() {
-        RawForm::Word(mark) => put_mark(line, *mark),
-        RawForm::Literal(number) => put_number(line, alloc, *number),
-        RawForm::Call(name, args) => put_called(line, alloc, name.as_slice(), args.len()),
-        RawForm::Binary(mark, _, _) => put_mark(line, *mark),
-        RawForm::Unary(mark, _) => put_mark(line, *mark),
-        RawForm::Quantified(mark, _, _) => put_mark(line, *mark),
+        FormulaForm::Word(mark) => put_mark(line, *mark),
+        FormulaForm::Literal(number) => put_number(line, alloc, *number),
+        FormulaForm::Call(name, args) => put_called(line, alloc, name.as_slice(), args.len()),
+        FormulaForm::Binary(mark, _, _) => put_mark(line, *mark),
+        FormulaForm::Unary(mark, _) => put_mark(line, *mark),
+        FormulaForm::Quantified(mark, _, _) => put_mark(line, *mark),
         _ => put(line, b".."),
     }
 }

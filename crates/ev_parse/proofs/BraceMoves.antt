@@ -2,7 +2,7 @@
 use Rattle.std.proofs.Common.{◌≡◌, ℕ, zero, suc, ◌+◌, ◌≤◌, Bool, true, false, List, [], ◌∷◌, ◌++◌, refl, ap, subst, sym, ◌∙◌, arith}
 use Rattle.std.specs.Prelude.{Option, Some, None, if◌then◌else◌}
 use Rattle.ev_syntax.specs.Marks.{open_brace, close_brace, dot, bar, comma}
-use Rattle.ev_syntax.specs.Tokens.{Token, name, mark}
+use Rattle.ev_syntax.specs.Tokens.{Token, mark}
 use Rattle.ev_syntax.specs.Raw.{Raw, Raws, Binder, members, set_of, collected, one}
 use Rattle.ev_syntax.specs.Grammar.{ReadsBinders}
 use Rattle.ev_syntax.specs.inner.Finding.{Found, on_found, Comes}

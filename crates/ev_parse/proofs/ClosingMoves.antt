@@ -5,7 +5,7 @@ use Rattle.std.proofs.Common.{inl, inr}
 use Rattle.std.proofs.lemmas.Option.{slice_get-get_or}
 use Rattle.ev_syntax.specs.Marks.{open_paren, close_paren}
 use Rattle.ev_syntax.specs.Tokens.{Token, name, number, mark}
-use Rattle.ev_syntax.specs.inner.Looking.{after_close}
+use Rattle.ev_syntax.specs.inner.Lookahead.{after_close}
 use Rattle.ev_parse.specs.inner.Closings.{Closes, IsTable}
 
 -- behind one more that is open
@@ -56,25 +56,6 @@ deeper n (suc j) (suc k) (mark m ∷ ts) e = later_case (m == open_paren) (m == 
 pub entry_at : (ts : List Token) (table : List (Option ℕ)) (at i : ℕ) → IsTable ts table → i ≡ length ts - at → at ≤ length ts → i < length table → Closes ts at (get_or table i None)
 entry_at ts table at i h e le lt = let here : length ts - i ≡ at = omega arith in
     subst (λ j. Closes ts j (get_or table i None)) here (h i (get_or table i None) (slice_get-get_or table i None lt))
-
--- entries by the token at the place
-pub closes_name : (ts : List Token) (at : ℕ) (n : List ℕ) (r : Option ℕ) → drop at ts ≡ name n ∷ drop (at + 1) ts → Closes ts (at + 1) r → Closes ts at r
-closes_name ts at n None e h = ap (after_close 0) e ∙ h
-closes_name ts at n (Some to) e h = (ap (after_close 0) e ∙ h.0, let w = h.1 in omega arith, h.2)
-
-pub closes_number : (ts : List Token) (at n : ℕ) (r : Option ℕ) → drop at ts ≡ number n ∷ drop (at + 1) ts → Closes ts (at + 1) r → Closes ts at r
-closes_number ts at n None e h = ap (after_close 0) e ∙ h
-closes_number ts at n (Some to) e h = (ap (after_close 0) e ∙ h.0, let w = h.1 in omega arith, h.2)
-
-pub closes_end : (ts : List Token) (at : ℕ) → drop at ts ≡ [] → Closes ts at None
-closes_end ts at e = ap (after_close 0) e
-
-pub closes_here : (ts : List Token) (at : ℕ) → drop at ts ≡ mark close_paren ∷ drop (at + 1) ts → at < length ts → Closes ts at (Some (at + 1))
-closes_here ts at e lt = (ap (after_close 0) e, omega arith, omega arith)
-
-pub closes_other : (ts : List Token) (at m : ℕ) (r : Option ℕ) → drop at ts ≡ mark m ∷ drop (at + 1) ts → (m == open_paren) ≡ false → (m == close_paren) ≡ false → Closes ts (at + 1) r → Closes ts at r
-closes_other ts at m None e a b h = ap (after_close 0) e ∙ rw (a, b) h
-closes_other ts at m (Some to) e a b h = (ap (after_close 0) e ∙ rw (a, b) h.0, let w = h.1 in omega arith, h.2)
 
 pub closes_open_none : (ts : List Token) (at : ℕ) → drop at ts ≡ mark open_paren ∷ drop (at + 1) ts → Closes ts (at + 1) None → Closes ts at None
 closes_open_none ts at e h = ap (after_close 0) e ∙ deeper 0 1 0 (drop (at + 1) ts) refl ∙ ap (then_close 0) h

@@ -5,7 +5,7 @@ use Rattle.std.proofs.lemmas.Bool.{eqb-true}
 use Rattle.ev_syntax.specs.Marks.{product_sign, open_paren, inverse_sign, and_sign, or_word, implies_sign}
 use Rattle.ev_syntax.specs.Tokens.{Token, name, number, mark}
 use Rattle.ev_syntax.specs.inner.TypeParser.{begins}
-use Rattle.ev_syntax.specs.inner.Looking.{operator_of, is_from, first_operator, goes_on}
+use Rattle.ev_syntax.specs.inner.Lookahead.{operator_of, is_from, first_operator, goes_on}
 use Rattle.ev_syntax.specs.inner.FormulaParser.{is_relation, connects}
 use Rattle.ev_syntax.specs.declared.sorts.Sort.{Sort}
 use Rattle.ev_syntax.specs.declared.sorts.Sort.TheVariants.{Pred, Expr, Either, TypeText}

@@ -29,9 +29,6 @@ seen_length text tokens = simp length-map
 abbrev pub NoneBehind : List Token → ℕ → Sort → ℕ → Type 0
 NoneBehind ts from sort to = (n : ℕ) (raw : Raw) → IsRun ts from sort n raw → from + n ≤ to
 
-pub none_behind_all : (sort : Sort) (ts : List Token) (from to : ℕ) → to ≡ length ts → NoneBehind ts from sort to
-none_behind_all sort ts from to e n raw h = let le = h.0 in omega arith
-
 -- a run up to a place is all of the tokens up to it
 run_part : (sort : Sort) (ts : List Token) (from n : ℕ) (raw : Raw) → Parses (take n (drop from ts)) sort raw → Parses (drop from (take (from + n) ts)) sort raw
 run_part sort ts from n raw h = subst (λ us. Parses us sort raw) (sym (drop-take from n ts)) h

@@ -7,7 +7,7 @@ use Rattle.ev_syntax.specs.Marks.{minus_sign, param_sign, type_word, open_paren,
 use Rattle.ev_syntax.specs.Tokens.{Token, name, number, mark}
 use Rattle.ev_syntax.specs.Raw.{RawType, Raw, Raws, Binder, Pattern, word, param, type_set, call, collected, lambda, none, one}
 use Rattle.ev_syntax.specs.Parts.{is_among}
-use Rattle.ev_syntax.specs.inner.Seeing.{small_number}
+use Rattle.ev_syntax.specs.inner.TokenAt.{small_number}
 use Rattle.ev_syntax.specs.inner.Finding.{Found, on_found, Comes}
 use Rattle.ev_syntax.specs.inner.TypeParser.{begins, expect, parse_type, a_type}
 use Rattle.ev_syntax.specs.inner.BinderParser.{parse_binders}

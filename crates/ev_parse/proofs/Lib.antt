@@ -7,7 +7,6 @@ pub mod ListMoves
 pub mod OperandMoves
 pub mod PredicateMoves
 pub mod RelationMoves
-pub mod Stacks
 pub mod FormulaProgress
 pub mod EndingMoves
 pub mod ItemMoves

@@ -7,7 +7,7 @@ use Rattle.ev_syntax.specs.Marks.{inverse_sign, open_paren, open_bracket, oftype
 use Rattle.ev_syntax.specs.Tokens.{Token, mark}
 use Rattle.ev_syntax.specs.Raw.{RawType, Raw, binary, inverse, apply, image, of_type}
 use Rattle.ev_syntax.specs.Parts.{Operator, operators, is_among}
-use Rattle.ev_syntax.specs.inner.Looking.{operator_of, is_at, first_operator}
+use Rattle.ev_syntax.specs.inner.Lookahead.{operator_of, is_at, first_operator}
 use Rattle.ev_parse.specs.inner.Levels.{level_of, operator_level}
 use Rattle.ev_syntax.specs.inner.Finding.{Found, on_found, Comes}
 use Rattle.ev_syntax.specs.inner.TypeParser.{begins, parse_type, a_type}

@@ -5,7 +5,7 @@ use Rattle.std.specs.List.{list_all}
 use Rattle.std.proofs.lemmas.Bool.{eqb-true}
 use Rattle.std.proofs.lemmas.Bool.Decides.{nat_tests}
 use Rattle.ev_syntax.specs.Parts.{Operator, operators}
-use Rattle.ev_syntax.specs.inner.Looking.{operator_of}
+use Rattle.ev_syntax.specs.inner.Lookahead.{operator_of}
 use Rattle.ev_parse.specs.inner.Levels.{level_of, operator_level}
 use Rattle.ev_syntax.proofs.Levels.{found_good}
 use Rattle.ev_parse.specs.declared.marks.TheConstants.{LEVELS}

@@ -6,7 +6,7 @@ use Rattle.ev_syntax.specs.Marks.{not_word, for_all_sign, for_some_sign, true_wo
 use Rattle.ev_syntax.specs.Tokens.{Token, mark}
 use Rattle.ev_syntax.specs.Raw.{Raw, Binder, quantified, binary}
 use Rattle.ev_syntax.specs.Parts.{Operator}
-use Rattle.ev_syntax.specs.inner.Looking.{after_close, goes_on, operator_of, is_from}
+use Rattle.ev_syntax.specs.inner.Lookahead.{after_close, goes_on, operator_of, is_from}
 use Rattle.ev_parse.specs.inner.Levels.{level_of, operator_level}
 use Rattle.ev_syntax.specs.inner.Finding.{Found, on_found, Comes}
 use Rattle.ev_syntax.specs.inner.TypeParser.{begins, expect}

@@ -6,7 +6,7 @@ use Rattle.ev_syntax.specs.inner.Pieces.{IsPiece}
 use Rattle.ev_syntax.specs.declared.read_pieces.Piece.{Piece}
 use Rattle.ev_syntax.specs.declared.sorts.Sort.{Sort}
 use Rattle.ev_syntax.specs.Parses.{IsRun}
-use Rattle.ev_syntax.specs.inner.Looking.{goes_on}
+use Rattle.ev_syntax.specs.inner.Lookahead.{goes_on}
 use Rattle.ev_syntax.specs.inner.FormulaParser.{is_relation, connects}
 
 -- no formula and no type goes on with what stands first: it is no infix or postfix sign, no sign of a relation and no connective

@@ -1,7 +1,7 @@
 //! Where parentheses close.
 ghost use Rattle.std.specs.Prelude.{◌≡◌, ◌≤◌, ◌<◌, ◌+◌, length, IfOk, Some};
 ghost use Rattle.ev_syntax.specs.declared.kinds.TokenKind.TheVariants.{Mark as AMark};
-ghost use Rattle.ev_syntax.specs.inner.Seeing.{Sees, IsInside};
+ghost use Rattle.ev_syntax.specs.inner.TokenAt.{IsTokenAt, IsIndex};
 ghost use Rattle.ev_parse.specs.inner.Closings.{IsTable, Closes};
 
 use ev_syntax::TokenKind;
@@ -24,8 +24,8 @@ pub(crate) fn entry(reader: &Reader<'_>, table: &[Option<usize>], at: usize) -> 
 fn closing_mark(reader: &Reader<'_>, table: &[Option<usize>], at: usize, mark: u16) -> Option<usize>
     requires table { IsTable reader.now table.now }
     requires all { length table.now + at ≡ length reader.now }
-    requires inside { IsInside reader.now at }
-    requires seen { Sees (Some (AMark mark)) reader.now at }
+    requires inside { IsIndex reader.now at }
+    requires token { IsTokenAt (Some (AMark mark)) reader.now at }
     ensures { Closes reader.now at result }
 {
     if mark == CLOSE_PAREN {

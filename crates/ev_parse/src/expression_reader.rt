@@ -8,21 +8,23 @@ ghost use Rattle.ev_syntax.specs.inner.RawView.{raw_of};
 ghost use Rattle.ev_syntax.specs.inner.Finding.{Found};
 ghost use Rattle.ev_syntax.specs.inner.TypeParser.{begins, expect};
 ghost use Rattle.ev_syntax.specs.inner.Resuming.{Behind, Reach, FromCall};
-ghost use Rattle.ev_syntax.specs.inner.Seeing.{Sees, IsInside};
+ghost use Rattle.ev_syntax.specs.inner.TokenAt.{IsTokenAt, IsIndex};
 ghost use Rattle.ev_syntax.specs.inner.Pieces.{IsPiece};
 ghost use Rattle.ev_syntax.specs.Parts.{is_among};
 ghost use Rattle.ev_syntax.specs.inner.FormulaParser.{words, calls};
 ghost use Rattle.ev_parse.specs.inner.Forms.{IsRaw, is_call, members_nesting};
 ghost use Rattle.ev_syntax.specs.inner.BinderParser.{parse_binder};
 ghost use Rattle.ev_parse.specs.inner.Braces.{NotBefore};
-ghost use Rattle.ev_parse.specs.inner.Frames.{level_at, prim_at, stage_at, tail, body_tail, members_behind, collecting, IsFrame, StepHolds, step_weight};
+ghost use Rattle.ev_syntax.specs.inner.Machines.{Falls, Starts, StartsAbove, StepHolds, weight_at};
+ghost use Rattle.ev_parse.specs.inner.Frames.{level_at, prim_at, stage_at, tail, body_tail, members_behind, collecting, IsFrame, meaning};
 
 use crate::marks::{is_call, is_word};
 use crate::raw_pieces::{raw_piece, type_set_piece};
-use crate::states::{Frame, Goal, RawPiece, Stage, State, Step};
+use crate::states::{FormulaStep, Frame, Goal, RawPiece, Stage, State};
 use ev_syntax::TokenKind;
 use ev_syntax::binder_reader::{read_binder, read_binders};
-use ev_syntax::formulas::{RawForm, Raws};
+use ev_syntax::formulas::{FormulaForm, Raws};
+use ev_syntax::machines::Step;
 use ev_syntax::mark_names::{
     BAR, BOOL_WORD, CLOSE_BRACE, CLOSE_PAREN, DOT, INTER_OVER_WORD, LAMBDA_SIGN, MINUS_SIGN,
     OPEN_BRACE, OPEN_PAREN, PARAM_SIGN, TYPE_WORD, UNION_OVER_WORD,
@@ -39,15 +41,15 @@ fn leaf(
     reader: &Reader<'_>,
     alloc: Global,
     limit: u32,
-    form: RawForm,
+    form: FormulaForm,
     call: bool,
     k: u8,
     at: usize,
-) -> Result<Step, NoMemory>
+) -> Result<FormulaStep, NoMemory>
     requires flat { nesting (raw_of form) ≡ 1 }
     requires named { call ≡ is_call (raw_of form) }
-    ensures holds { (whole : ℕ → Option (Found RawTree)) → (bs : List (Behind RawTree)) → Reach whole (bs ++ tail k) (Some (raw_of form, drop at reader.now)) → at ≤ length reader.now → IfOk result (StepHolds limit reader.now whole bs) }
-    ensures falls { IfOk result (λ s. step_weight (length reader.now) s ≤ 20 * (length reader.now - at) + 3) }
+    ensures holds { (whole : ℕ → Option (Found RawTree)) → (bs : List (Behind RawTree)) → Reach whole (bs ++ tail k) (Some (raw_of form, drop at reader.now)) → at ≤ length reader.now → IfOk result (StepHolds (meaning limit reader.now) whole bs) }
+    ensures falls { Falls (meaning limit reader.now) (weight_at reader.now at 4) result }
 {
     let piece = raw_piece(alloc, limit, form, 1, call)?;
     Ok(Step::Go(State::Primary(piece, at, k)))
@@ -61,14 +63,14 @@ pub(crate) fn close(
     k: u8,
     at: usize,
     mark: u16,
-) -> Result<Step, NoMemory>
-    ensures holds { (whole : ℕ → Option (Found RawTree)) → (bs : List (Behind RawTree)) → (r : RawTree) → IsRaw limit piece r → Reach whole (bs ++ tail k) (expect mark (drop at reader.now) (λ rest. Some (r, rest))) → IfOk result (StepHolds limit reader.now whole bs) }
-    ensures falls { IfOk result (λ s. step_weight (length reader.now) s < 20 * (length reader.now - at) + 1) }
+) -> Result<FormulaStep, NoMemory>
+    ensures holds { (whole : ℕ → Option (Found RawTree)) → (bs : List (Behind RawTree)) → (r : RawTree) → IsRaw limit piece r → Reach whole (bs ++ tail k) (expect mark (drop at reader.now) (λ rest. Some (r, rest))) → IfOk result (StepHolds (meaning limit reader.now) whole bs) }
+    ensures falls { Falls (meaning limit reader.now) (weight_at reader.now at 1) result }
 {
     if reader.is_mark(at, mark) {
         return Ok(Step::Go(State::Primary(piece, at + 1, k)));
     }
-    Ok(Step::Go(State::Fail))
+    Ok(Step::Fail)
 }
 
 /// Reads a name, with arguments or with none.
@@ -78,11 +80,11 @@ fn call_name(
     limit: u32,
     k: u8,
     at: usize,
-) -> Result<Step, NoMemory>
-    requires inside { IsInside reader.now at }
-    requires seen { Sees (Some AName) reader.now at }
-    ensures holds { (whole : ℕ → Option (Found RawTree)) → (bs : List (Behind RawTree)) → FromCall whole (bs ++ tail k) (prim_at (drop at reader.now)) → IfOk result (StepHolds limit reader.now whole bs) }
-    ensures falls { IfOk result (λ s. step_weight (length reader.now) s < 20 * (length reader.now - at) + 6) }
+) -> Result<FormulaStep, NoMemory>
+    requires inside { IsIndex reader.now at }
+    requires token { IsTokenAt (Some AName) reader.now at }
+    ensures holds { StartsAbove (meaning limit reader.now) (tail k) (prim_at (drop at reader.now)) result }
+    ensures falls { Falls (meaning limit reader.now) (weight_at reader.now at 6) result }
 {
     let name = reader.name(alloc, at)?;
     if reader.is_mark(at + 1, OPEN_PAREN) {
@@ -90,7 +92,7 @@ fn call_name(
         let inner = State::Call(Goal::Level(0), at + 2);
         return Ok(Step::Push(Frame::Args(name, args, k), inner));
     }
-    let form = RawForm::Call(name, ListOf::new(alloc));
+    let form = FormulaForm::Call(name, ListOf::new(alloc));
     leaf(reader, alloc, limit, form, true, k, at + 1)
 }
 
@@ -101,11 +103,11 @@ fn call_param(
     limit: u32,
     k: u8,
     at: usize,
-) -> Result<Step, NoMemory>
-    requires inside { IsInside reader.now at }
-    requires seen { Sees (Some (AMark PARAM_SIGN)) reader.now at }
-    ensures holds { (whole : ℕ → Option (Found RawTree)) → (bs : List (Behind RawTree)) → FromCall whole (bs ++ tail k) (prim_at (drop at reader.now)) → IfOk result (StepHolds limit reader.now whole bs) }
-    ensures falls { IfOk result (λ s. step_weight (length reader.now) s < 20 * (length reader.now - at) + 6) }
+) -> Result<FormulaStep, NoMemory>
+    requires inside { IsIndex reader.now at }
+    requires token { IsTokenAt (Some (AMark PARAM_SIGN)) reader.now at }
+    ensures holds { StartsAbove (meaning limit reader.now) (tail k) (prim_at (drop at reader.now)) result }
+    ensures falls { Falls (meaning limit reader.now) (weight_at reader.now at 6) result }
 {
     match reader.small_number(at + 1) {
         Some(number) => {
@@ -113,13 +115,13 @@ fn call_param(
                 reader,
                 alloc,
                 limit,
-                RawForm::Param(number),
+                FormulaForm::Param(number),
                 false,
                 k,
                 at + 2,
             )
         }
-        None => Ok(Step::Go(State::Fail)),
+        None => Ok(Step::Fail),
     }
 }
 
@@ -130,21 +132,21 @@ fn call_type(
     limit: u32,
     k: u8,
     at: usize,
-) -> Result<Step, NoMemory>
-    requires inside { IsInside reader.now at }
-    requires seen { Sees (Some (AMark TYPE_WORD)) reader.now at }
-    ensures holds { (whole : ℕ → Option (Found RawTree)) → (bs : List (Behind RawTree)) → FromCall whole (bs ++ tail k) (prim_at (drop at reader.now)) → IfOk result (StepHolds limit reader.now whole bs) }
-    ensures falls { IfOk result (λ s. step_weight (length reader.now) s < 20 * (length reader.now - at) + 6) }
+) -> Result<FormulaStep, NoMemory>
+    requires inside { IsIndex reader.now at }
+    requires token { IsTokenAt (Some (AMark TYPE_WORD)) reader.now at }
+    ensures holds { StartsAbove (meaning limit reader.now) (tail k) (prim_at (drop at reader.now)) result }
+    ensures falls { Falls (meaning limit reader.now) (weight_at reader.now at 6) result }
 {
     if !reader.is_mark(at + 1, OPEN_PAREN) {
-        return Ok(Step::Go(State::Fail));
+        return Ok(Step::Fail);
     }
     match read_type(reader, alloc, limit, at + 2)? {
         Some((written, to)) => {
             let piece = type_set_piece(alloc, limit, written)?;
             close(reader, limit, piece, k, to, CLOSE_PAREN)
         }
-        None => Ok(Step::Go(State::Fail)),
+        None => Ok(Step::Fail),
     }
 }
 
@@ -155,30 +157,30 @@ fn call_around(
     k: u8,
     at: usize,
     mark: u16,
-) -> Result<Step, NoMemory>
-    requires inside { IsInside reader.now at }
-    requires seen { Sees (Some (AMark mark)) reader.now at }
+) -> Result<FormulaStep, NoMemory>
+    requires inside { IsIndex reader.now at }
+    requires token { IsTokenAt (Some (AMark mark)) reader.now at }
     requires word { is_among calls mark ≡ true }
     requires others { (is_among words mark ≡ false) × (mark ≢ PARAM_SIGN) × (mark ≢ TYPE_WORD) }
-    ensures holds { (whole : ℕ → Option (Found RawTree)) → (bs : List (Behind RawTree)) → FromCall whole (bs ++ tail k) (prim_at (drop at reader.now)) → IfOk result (StepHolds limit reader.now whole bs) }
-    ensures falls { IfOk result (λ s. step_weight (length reader.now) s < 20 * (length reader.now - at) + 6) }
+    ensures holds { StartsAbove (meaning limit reader.now) (tail k) (prim_at (drop at reader.now)) result }
+    ensures falls { Falls (meaning limit reader.now) (weight_at reader.now at 6) result }
 {
     if !reader.is_mark(at + 1, OPEN_PAREN) {
-        return Ok(Step::Go(State::Fail));
+        return Ok(Step::Fail);
     }
     let inner = State::Call(Goal::Level(0), at + 2);
     Ok(Step::Push(Frame::Around(mark, k), inner))
 }
 
 /// Reads the parenthesis after `bool`.
-fn call_bool(reader: &Reader<'_>, limit: u32, k: u8, at: usize) -> Result<Step, NoMemory>
-    requires inside { IsInside reader.now at }
-    requires seen { Sees (Some (AMark BOOL_WORD)) reader.now at }
-    ensures holds { (whole : ℕ → Option (Found RawTree)) → (bs : List (Behind RawTree)) → FromCall whole (bs ++ tail k) (prim_at (drop at reader.now)) → IfOk result (StepHolds limit reader.now whole bs) }
-    ensures falls { IfOk result (λ s. step_weight (length reader.now) s < 20 * (length reader.now - at) + 6) }
+fn call_bool(reader: &Reader<'_>, limit: u32, k: u8, at: usize) -> Result<FormulaStep, NoMemory>
+    requires inside { IsIndex reader.now at }
+    requires token { IsTokenAt (Some (AMark BOOL_WORD)) reader.now at }
+    ensures holds { StartsAbove (meaning limit reader.now) (tail k) (prim_at (drop at reader.now)) result }
+    ensures falls { Falls (meaning limit reader.now) (weight_at reader.now at 6) result }
 {
     if !reader.is_mark(at + 1, OPEN_PAREN) {
-        return Ok(Step::Go(State::Fail));
+        return Ok(Step::Fail);
     }
     let inner = State::Call(Goal::Stage(Stage::Pred), at + 2);
     Ok(Step::Push(Frame::Around(BOOL_WORD, k), inner))
@@ -202,10 +204,10 @@ fn call_members(
     limit: u32,
     k: u8,
     at: usize,
-) -> Result<Step, NoMemory>
-    requires inside { IsInside reader.now at }
-    ensures holds { (whole : ℕ → Option (Found RawTree)) → (bs : List (Behind RawTree)) → FromCall whole (bs ++ (tail k ++ members_behind [] ∷ [])) (level_at 0 (drop (at + 1) reader.now)) → IfOk result (StepHolds limit reader.now whole bs) }
-    ensures falls { IfOk result (λ s. step_weight (length reader.now) s < 20 * (length reader.now - at) + 6) }
+) -> Result<FormulaStep, NoMemory>
+    requires inside { IsIndex reader.now at }
+    ensures holds { StartsAbove (meaning limit reader.now) (tail k ++ members_behind [] ∷ []) (level_at 0 (drop (at + 1) reader.now)) result }
+    ensures falls { Falls (meaning limit reader.now) (weight_at reader.now at 6) result }
 {
     let frame = Frame::Members(no_members(alloc, limit), k);
     let inner = State::Call(Goal::Level(0), at + 1);
@@ -219,13 +221,13 @@ fn call_named(
     limit: u32,
     k: u8,
     at: usize,
-) -> Result<Step, NoMemory>
-    requires inside { IsInside reader.now at }
-    requires seen { Sees (Some (AMark OPEN_BRACE)) reader.now at }
+) -> Result<FormulaStep, NoMemory>
+    requires inside { IsIndex reader.now at }
+    requires token { IsTokenAt (Some (AMark OPEN_BRACE)) reader.now at }
     requires open { begins close_brace (drop (at + 1) reader.now) ≡ false }
     requires named { NotBefore bar (λ g. parse_binder g (drop (at + 1) reader.now)) }
-    ensures holds { (whole : ℕ → Option (Found RawTree)) → (bs : List (Behind RawTree)) → FromCall whole (bs ++ tail k) (prim_at (drop at reader.now)) → IfOk result (StepHolds limit reader.now whole bs) }
-    ensures falls { IfOk result (λ s. step_weight (length reader.now) s < 20 * (length reader.now - at) + 6) }
+    ensures holds { StartsAbove (meaning limit reader.now) (tail k) (prim_at (drop at reader.now)) result }
+    ensures falls { Falls (meaning limit reader.now) (weight_at reader.now at 6) result }
 {
     match read_binders(reader, alloc, limit, at + 1)? {
         Some((binders, to)) => {
@@ -246,14 +248,14 @@ fn call_brace(
     limit: u32,
     k: u8,
     at: usize,
-) -> Result<Step, NoMemory>
-    requires inside { IsInside reader.now at }
-    requires seen { Sees (Some (AMark OPEN_BRACE)) reader.now at }
-    ensures holds { (whole : ℕ → Option (Found RawTree)) → (bs : List (Behind RawTree)) → FromCall whole (bs ++ tail k) (prim_at (drop at reader.now)) → IfOk result (StepHolds limit reader.now whole bs) }
-    ensures falls { IfOk result (λ s. step_weight (length reader.now) s < 20 * (length reader.now - at) + 6) }
+) -> Result<FormulaStep, NoMemory>
+    requires inside { IsIndex reader.now at }
+    requires token { IsTokenAt (Some (AMark OPEN_BRACE)) reader.now at }
+    ensures holds { StartsAbove (meaning limit reader.now) (tail k) (prim_at (drop at reader.now)) result }
+    ensures falls { Falls (meaning limit reader.now) (weight_at reader.now at 6) result }
 {
     if reader.is_mark(at + 1, CLOSE_BRACE) {
-        let form = RawForm::Members(ListOf::new(alloc));
+        let form = FormulaForm::Members(ListOf::new(alloc));
         return leaf(reader, alloc, limit, form, false, k, at + 2);
     }
     match read_binder(reader, alloc, limit, at + 1)? {
@@ -276,14 +278,22 @@ fn call_primary(
     k: u8,
     at: usize,
     mark: u16,
-) -> Result<Step, NoMemory>
-    requires inside { IsInside reader.now at }
-    requires seen { Sees (Some (AMark mark)) reader.now at }
-    ensures holds { (whole : ℕ → Option (Found RawTree)) → (bs : List (Behind RawTree)) → FromCall whole (bs ++ tail k) (prim_at (drop at reader.now)) → IfOk result (StepHolds limit reader.now whole bs) }
-    ensures falls { IfOk result (λ s. step_weight (length reader.now) s < 20 * (length reader.now - at) + 6) }
+) -> Result<FormulaStep, NoMemory>
+    requires inside { IsIndex reader.now at }
+    requires token { IsTokenAt (Some (AMark mark)) reader.now at }
+    ensures holds { StartsAbove (meaning limit reader.now) (tail k) (prim_at (drop at reader.now)) result }
+    ensures falls { Falls (meaning limit reader.now) (weight_at reader.now at 6) result }
 {
     if is_word(mark) {
-        return leaf(reader, alloc, limit, RawForm::Word(mark), false, k, at + 1);
+        return leaf(
+            reader,
+            alloc,
+            limit,
+            FormulaForm::Word(mark),
+            false,
+            k,
+            at + 1,
+        );
     }
     if mark == PARAM_SIGN {
         return call_param(reader, alloc, limit, k, at);
@@ -304,7 +314,7 @@ fn call_primary(
     if mark == BOOL_WORD {
         return call_bool(reader, limit, k, at);
     }
-    Ok(Step::Go(State::Fail))
+    Ok(Step::Fail)
 }
 
 /// Reads a dot, and then a predicate.
@@ -313,15 +323,15 @@ pub(crate) fn dot_then(
     limit: u32,
     frame: Frame,
     at: usize,
-) -> Result<Step, NoMemory>
-    ensures holds { (whole : ℕ → Option (Found RawTree)) → (bs : List (Behind RawTree)) → (cs : List (Behind RawTree)) → IsFrame limit frame cs → (begins dot (drop at reader.now) ≡ true → FromCall whole (bs ++ cs) (stage_at Pred (drop (at + 1) reader.now))) → (begins dot (drop at reader.now) ≡ false → Reach whole bs None) → IfOk result (StepHolds limit reader.now whole bs) }
-    ensures falls { IfOk result (λ s. step_weight (length reader.now) s < 20 * (length reader.now - at) + 1) }
+) -> Result<FormulaStep, NoMemory>
+    ensures holds { (whole : ℕ → Option (Found RawTree)) → (bs : List (Behind RawTree)) → (cs : List (Behind RawTree)) → IsFrame limit frame cs → (begins dot (drop at reader.now) ≡ true → FromCall whole (bs ++ cs) (stage_at Pred (drop (at + 1) reader.now))) → (begins dot (drop at reader.now) ≡ false → Reach whole bs None) → IfOk result (StepHolds (meaning limit reader.now) whole bs) }
+    ensures falls { Falls (meaning limit reader.now) (weight_at reader.now at 1) result }
 {
     if reader.is_mark(at, DOT) {
         let inner = State::Call(Goal::Stage(Stage::Pred), at + 1);
         return Ok(Step::Push(frame, inner));
     }
-    Ok(Step::Go(State::Fail))
+    Ok(Step::Fail)
 }
 
 /// Reads bound names, a dot and what follows of a form that collects values.
@@ -332,41 +342,46 @@ pub(crate) fn collect(
     mark: u16,
     k: u8,
     at: usize,
-) -> Result<Step, NoMemory>
-    ensures holds { (whole : ℕ → Option (Found RawTree)) → (bs : List (Behind RawTree)) → FromCall whole (bs ++ body_tail mark k) (collecting mark (drop at reader.now)) → IfOk result (StepHolds limit reader.now whole bs) }
-    ensures falls { IfOk result (λ s. step_weight (length reader.now) s < 20 * (length reader.now - at) + 1) }
+) -> Result<FormulaStep, NoMemory>
+    ensures holds { StartsAbove (meaning limit reader.now) (body_tail mark k) (collecting mark (drop at reader.now)) result }
+    ensures falls { Falls (meaning limit reader.now) (weight_at reader.now at 1) result }
 {
     match read_binders(reader, alloc, limit, at)? {
         Some((binders, to)) => dot_then(reader, limit, Frame::Body(mark, binders, k), to),
-        None => Ok(Step::Go(State::Fail)),
+        None => Ok(Step::Fail),
     }
 }
 
 /// Reads the pattern and the dot of a function abstraction.
-fn call_lambda(reader: &Reader<'_>, alloc: Global, limit: u32, at: usize) -> Result<Step, NoMemory>
-    requires inside { IsInside reader.now at }
-    requires seen { Sees (Some (AMark LAMBDA_SIGN)) reader.now at }
-    ensures holds { (whole : ℕ → Option (Found RawTree)) → (bs : List (Behind RawTree)) → FromCall whole bs (level_at 0 (drop at reader.now)) → IfOk result (StepHolds limit reader.now whole bs) }
-    ensures falls { IfOk result (λ s. step_weight (length reader.now) s < 20 * (length reader.now - at) + 6) }
+fn call_lambda(
+    reader: &Reader<'_>,
+    alloc: Global,
+    limit: u32,
+    at: usize,
+) -> Result<FormulaStep, NoMemory>
+    requires inside { IsIndex reader.now at }
+    requires token { IsTokenAt (Some (AMark LAMBDA_SIGN)) reader.now at }
+    ensures holds { Starts (meaning limit reader.now) (level_at 0 (drop at reader.now)) result }
+    ensures falls { Falls (meaning limit reader.now) (weight_at reader.now at 6) result }
 {
     match read_pattern(reader, alloc, limit, at + 1)? {
         Some((pattern, to)) => dot_then(reader, limit, Frame::LambdaBody(pattern), to),
-        None => Ok(Step::Go(State::Fail)),
+        None => Ok(Step::Fail),
     }
 }
 
 /// Reads the operand of an unary minus.
-fn call_minus(reader: &Reader<'_>, limit: u32, k: u8, at: usize) -> Result<Step, NoMemory>
-    requires inside { IsInside reader.now at }
-    requires seen { Sees (Some (AMark MINUS_SIGN)) reader.now at }
-    ensures holds { (whole : ℕ → Option (Found RawTree)) → (bs : List (Behind RawTree)) → k ≤ 9 → FromCall whole bs (level_at k (drop at reader.now)) → IfOk result (StepHolds limit reader.now whole bs) }
-    ensures falls { IfOk result (λ s. step_weight (length reader.now) s < 20 * (length reader.now - at) + 6) }
+fn call_minus(reader: &Reader<'_>, limit: u32, k: u8, at: usize) -> Result<FormulaStep, NoMemory>
+    requires inside { IsIndex reader.now at }
+    requires token { IsTokenAt (Some (AMark MINUS_SIGN)) reader.now at }
+    ensures holds { (whole : ℕ → Option (Found RawTree)) → (bs : List (Behind RawTree)) → k ≤ 9 → FromCall whole bs (level_at k (drop at reader.now)) → IfOk result (StepHolds (meaning limit reader.now) whole bs) }
+    ensures falls { Falls (meaning limit reader.now) (weight_at reader.now at 6) result }
 {
     if k <= 7 {
         let inner = State::Call(Goal::Level(8), at + 1);
         return Ok(Step::Push(Frame::Minus(k), inner));
     }
-    Ok(Step::Go(State::Fail))
+    Ok(Step::Fail)
 }
 
 /// Reads an expression that begins with a mark.
@@ -377,11 +392,11 @@ fn call_mark(
     k: u8,
     at: usize,
     mark: u16,
-) -> Result<Step, NoMemory>
-    requires inside { IsInside reader.now at }
-    requires seen { Sees (Some (AMark mark)) reader.now at }
-    ensures holds { (whole : ℕ → Option (Found RawTree)) → (bs : List (Behind RawTree)) → k ≤ 9 → FromCall whole bs (level_at k (drop at reader.now)) → IfOk result (StepHolds limit reader.now whole bs) }
-    ensures falls { IfOk result (λ s. step_weight (length reader.now) s < 20 * (length reader.now - at) + 6) }
+) -> Result<FormulaStep, NoMemory>
+    requires inside { IsIndex reader.now at }
+    requires token { IsTokenAt (Some (AMark mark)) reader.now at }
+    ensures holds { (whole : ℕ → Option (Found RawTree)) → (bs : List (Behind RawTree)) → k ≤ 9 → FromCall whole bs (level_at k (drop at reader.now)) → IfOk result (StepHolds (meaning limit reader.now) whole bs) }
+    ensures falls { Falls (meaning limit reader.now) (weight_at reader.now at 6) result }
 {
     if mark == MINUS_SIGN {
         return call_minus(reader, limit, k, at);
@@ -408,9 +423,9 @@ pub(crate) fn call_level(
     limit: u32,
     k: u8,
     at: usize,
-) -> Result<Step, NoMemory>
-    ensures holds { (whole : ℕ → Option (Found RawTree)) → (bs : List (Behind RawTree)) → k ≤ 9 → FromCall whole bs (level_at k (drop at reader.now)) → IfOk result (StepHolds limit reader.now whole bs) }
-    ensures falls { IfOk result (λ s. step_weight (length reader.now) s < 20 * (length reader.now - at) + 6) }
+) -> Result<FormulaStep, NoMemory>
+    ensures holds { (whole : ℕ → Option (Found RawTree)) → (bs : List (Behind RawTree)) → k ≤ 9 → FromCall whole bs (level_at k (drop at reader.now)) → IfOk result (StepHolds (meaning limit reader.now) whole bs) }
+    ensures falls { Falls (meaning limit reader.now) (weight_at reader.now at 6) result }
 {
     match reader.kind(at) {
         Some(TokenKind::Name) => call_name(reader, alloc, limit, k, at),
@@ -419,13 +434,13 @@ pub(crate) fn call_level(
                 reader,
                 alloc,
                 limit,
-                RawForm::Literal(number),
+                FormulaForm::Literal(number),
                 false,
                 k,
                 at + 1,
             )
         }
         Some(TokenKind::Mark(mark)) => call_mark(reader, alloc, limit, k, at, mark),
-        None => Ok(Step::Go(State::Fail)),
+        None => Ok(Step::Fail),
     }
 }

@@ -8,19 +8,21 @@ ghost use Rattle.ev_syntax.specs.inner.RawView.{raw_of};
 ghost use Rattle.ev_syntax.specs.inner.Finding.{Found};
 ghost use Rattle.ev_syntax.specs.inner.TypeParser.{begins, expect};
 ghost use Rattle.ev_syntax.specs.inner.Resuming.{Behind, Reach, FromCall};
-ghost use Rattle.ev_syntax.specs.inner.Seeing.{Sees, IsInside};
+ghost use Rattle.ev_syntax.specs.inner.TokenAt.{IsTokenAt, IsIndex};
 ghost use Rattle.ev_syntax.specs.inner.Pieces.{IsPiece};
 ghost use Rattle.ev_syntax.specs.Parts.{is_among};
 ghost use Rattle.ev_syntax.specs.inner.FormulaParser.{words, calls};
 ghost use Rattle.ev_parse.specs.inner.Forms.{IsRaw};
-ghost use Rattle.ev_parse.specs.inner.Frames.{IsFrame, StepHolds, step_weight};
+ghost use Rattle.ev_syntax.specs.inner.Machines.{Falls, Resumes, weight_at};
+ghost use Rattle.ev_parse.specs.inner.Frames.{meaning};
 
 use crate::expression_reader::close;
 use crate::raw_pieces::{
     apply_piece, around_piece, binary_piece, image_piece, lambda_piece, set_piece, unary_piece,
 };
-use crate::states::{Frame, Goal, RawPiece, Stage, State, Step};
+use crate::states::{FormulaStep, Frame, Goal, RawPiece, Stage, State};
 use ev_syntax::binders::{Binder, Binders};
+use ev_syntax::machines::Step;
 use ev_syntax::mark_names::{BAR, CLOSE_BRACE, CLOSE_BRACKET, CLOSE_PAREN, MINUS_SIGN, NOT_WORD};
 use ev_syntax::pattern_states::PatternPiece;
 use ev_syntax::read_pieces::Piece;
@@ -37,9 +39,9 @@ pub(crate) fn after_word(
     k: u8,
     piece: RawPiece,
     at: usize,
-) -> Result<Step, NoMemory>
-    ensures holds { (whole : ℕ → Option (Found RawTree)) → (bs : List (Behind RawTree)) → (cs : List (Behind RawTree)) → (r : RawTree) → IsFrame limit (Frame.Around mark k) cs → IsRaw limit piece r → Reach whole (bs ++ cs) (Some (r, drop at reader.now)) → at ≤ length reader.now → IfOk result (StepHolds limit reader.now whole bs) }
-    ensures falls { IfOk result (λ s. step_weight (length reader.now) s < 20 * (length reader.now - at) + 6) }
+) -> Result<FormulaStep, NoMemory>
+    ensures holds { Resumes (meaning limit reader.now) (Frame.Around mark k) piece at result }
+    ensures falls { Falls (meaning limit reader.now) (weight_at reader.now at 6) result }
 {
     let piece = around_piece(alloc, limit, mark, piece)?;
     close(reader, limit, piece, k, at, CLOSE_PAREN)
@@ -54,9 +56,9 @@ pub(crate) fn after_set(
     k: u8,
     piece: RawPiece,
     at: usize,
-) -> Result<Step, NoMemory>
-    ensures holds { (whole : ℕ → Option (Found RawTree)) → (bs : List (Behind RawTree)) → (cs : List (Behind RawTree)) → (r : RawTree) → IsFrame limit (Frame.SetBody binder k) cs → IsRaw limit piece r → Reach whole (bs ++ cs) (Some (r, drop at reader.now)) → at ≤ length reader.now → IfOk result (StepHolds limit reader.now whole bs) }
-    ensures falls { IfOk result (λ s. step_weight (length reader.now) s < 20 * (length reader.now - at) + 6) }
+) -> Result<FormulaStep, NoMemory>
+    ensures holds { Resumes (meaning limit reader.now) (Frame.SetBody binder k) piece at result }
+    ensures falls { Falls (meaning limit reader.now) (weight_at reader.now at 6) result }
 {
     let piece = set_piece(alloc, limit, binder, piece)?;
     close(reader, limit, piece, k, at, CLOSE_BRACE)
@@ -71,12 +73,12 @@ pub(crate) fn after_argument(
     k: u8,
     piece: RawPiece,
     at: usize,
-) -> Result<Step, NoMemory>
-    ensures holds { (whole : ℕ → Option (Found RawTree)) → (bs : List (Behind RawTree)) → (cs : List (Behind RawTree)) → (r : RawTree) → IsFrame limit (Frame.Argument function k) cs → IsRaw limit piece r → Reach whole (bs ++ cs) (Some (r, drop at reader.now)) → at ≤ length reader.now → IfOk result (StepHolds limit reader.now whole bs) }
-    ensures falls { IfOk result (λ s. step_weight (length reader.now) s < 20 * (length reader.now - at) + 6) }
+) -> Result<FormulaStep, NoMemory>
+    ensures holds { Resumes (meaning limit reader.now) (Frame.Argument function k) piece at result }
+    ensures falls { Falls (meaning limit reader.now) (weight_at reader.now at 6) result }
 {
     if !reader.is_mark(at, CLOSE_PAREN) {
-        return Ok(Step::Go(State::Fail));
+        return Ok(Step::Fail);
     }
     let piece = apply_piece(alloc, limit, function, piece)?;
     Ok(Step::Go(State::Primary(piece, at + 1, k)))
@@ -91,12 +93,12 @@ pub(crate) fn after_image(
     k: u8,
     piece: RawPiece,
     at: usize,
-) -> Result<Step, NoMemory>
-    ensures holds { (whole : ℕ → Option (Found RawTree)) → (bs : List (Behind RawTree)) → (cs : List (Behind RawTree)) → (r : RawTree) → IsFrame limit (Frame.Image relation k) cs → IsRaw limit piece r → Reach whole (bs ++ cs) (Some (r, drop at reader.now)) → at ≤ length reader.now → IfOk result (StepHolds limit reader.now whole bs) }
-    ensures falls { IfOk result (λ s. step_weight (length reader.now) s < 20 * (length reader.now - at) + 6) }
+) -> Result<FormulaStep, NoMemory>
+    ensures holds { Resumes (meaning limit reader.now) (Frame.Image relation k) piece at result }
+    ensures falls { Falls (meaning limit reader.now) (weight_at reader.now at 6) result }
 {
     if !reader.is_mark(at, CLOSE_BRACKET) {
-        return Ok(Step::Go(State::Fail));
+        return Ok(Step::Fail);
     }
     let piece = image_piece(alloc, limit, relation, piece)?;
     Ok(Step::Go(State::Primary(piece, at + 1, k)))
@@ -110,9 +112,9 @@ pub(crate) fn after_minus(
     k: u8,
     piece: RawPiece,
     at: usize,
-) -> Result<Step, NoMemory>
-    ensures holds { (whole : ℕ → Option (Found RawTree)) → (bs : List (Behind RawTree)) → (cs : List (Behind RawTree)) → (r : RawTree) → IsFrame limit (Frame.Minus k) cs → IsRaw limit piece r → Reach whole (bs ++ cs) (Some (r, drop at reader.now)) → at ≤ length reader.now → IfOk result (StepHolds limit reader.now whole bs) }
-    ensures falls { IfOk result (λ s. step_weight (length reader.now) s < 20 * (length reader.now - at) + 6) }
+) -> Result<FormulaStep, NoMemory>
+    ensures holds { Resumes (meaning limit reader.now) (Frame.Minus k) piece at result }
+    ensures falls { Falls (meaning limit reader.now) (weight_at reader.now at 6) result }
 {
     let piece = unary_piece(alloc, limit, MINUS_SIGN, piece)?;
     Ok(Step::Go(State::Operand(piece, at, 7, k)))
@@ -125,15 +127,15 @@ pub(crate) fn after_lambda(
     pattern: PatternPiece,
     piece: RawPiece,
     at: usize,
-) -> Result<Step, NoMemory>
-    ensures holds { (whole : ℕ → Option (Found RawTree)) → (bs : List (Behind RawTree)) → (cs : List (Behind RawTree)) → (r : RawTree) → IsFrame limit (Frame.LambdaBody pattern) cs → IsRaw limit piece r → Reach whole (bs ++ cs) (Some (r, drop at reader.now)) → at ≤ length reader.now → IfOk result (StepHolds limit reader.now whole bs) }
-    ensures falls { IfOk result (λ s. step_weight (length reader.now) s < 20 * (length reader.now - at) + 6) }
+) -> Result<FormulaStep, NoMemory>
+    ensures holds { Resumes (meaning limit reader.now) (Frame.LambdaBody pattern) piece at result }
+    ensures falls { Falls (meaning limit reader.now) (weight_at reader.now at 6) result }
 {
     if reader.is_mark(at, BAR) {
         let inner = State::Call(Goal::Level(0), at + 1);
         return Ok(Step::Push(Frame::LambdaValue(pattern, piece), inner));
     }
-    Ok(Step::Go(State::Fail))
+    Ok(Step::Fail)
 }
 
 /// After `%p . P |`.
@@ -145,12 +147,12 @@ pub(crate) fn after_value(
     body: RawPiece,
     piece: RawPiece,
     at: usize,
-) -> Result<Step, NoMemory>
-    ensures holds { (whole : ℕ → Option (Found RawTree)) → (bs : List (Behind RawTree)) → (cs : List (Behind RawTree)) → (r : RawTree) → IsFrame limit (Frame.LambdaValue pattern body) cs → IsRaw limit piece r → Reach whole (bs ++ cs) (Some (r, drop at reader.now)) → at ≤ length reader.now → IfOk result (StepHolds limit reader.now whole bs) }
-    ensures falls { IfOk result (λ s. step_weight (length reader.now) s < 20 * (length reader.now - at) + 6) }
+) -> Result<FormulaStep, NoMemory>
+    ensures holds { Resumes (meaning limit reader.now) (Frame.LambdaValue pattern body) piece at result }
+    ensures falls { Falls (meaning limit reader.now) (weight_at reader.now at 6) result }
 {
     let piece = lambda_piece(alloc, limit, pattern, body, piece)?;
-    Ok(Step::Go(State::Found(piece, at)))
+    Ok(Step::Found(piece, at))
 }
 
 /// After `{xs .`, `UNION xs .` or `INTER xs .`.
@@ -162,15 +164,15 @@ pub(crate) fn after_dot(
     k: u8,
     piece: RawPiece,
     at: usize,
-) -> Result<Step, NoMemory>
-    ensures holds { (whole : ℕ → Option (Found RawTree)) → (bs : List (Behind RawTree)) → (cs : List (Behind RawTree)) → (r : RawTree) → IsFrame limit (Frame.Body mark binders k) cs → IsRaw limit piece r → Reach whole (bs ++ cs) (Some (r, drop at reader.now)) → at ≤ length reader.now → IfOk result (StepHolds limit reader.now whole bs) }
-    ensures falls { IfOk result (λ s. step_weight (length reader.now) s < 20 * (length reader.now - at) + 6) }
+) -> Result<FormulaStep, NoMemory>
+    ensures holds { Resumes (meaning limit reader.now) (Frame.Body mark binders k) piece at result }
+    ensures falls { Falls (meaning limit reader.now) (weight_at reader.now at 6) result }
 {
     if reader.is_mark(at, BAR) {
         let inner = State::Call(Goal::Level(0), at + 1);
         return Ok(Step::Push(Frame::Value(mark, binders, piece, k), inner));
     }
-    Ok(Step::Go(State::Fail))
+    Ok(Step::Fail)
 }
 
 /// After `not`.
@@ -181,9 +183,9 @@ pub(crate) fn after_not(
     stage: Stage,
     piece: RawPiece,
     at: usize,
-) -> Result<Step, NoMemory>
-    ensures holds { (whole : ℕ → Option (Found RawTree)) → (bs : List (Behind RawTree)) → (cs : List (Behind RawTree)) → (r : RawTree) → IsFrame limit (Frame.Not stage) cs → IsRaw limit piece r → Reach whole (bs ++ cs) (Some (r, drop at reader.now)) → at ≤ length reader.now → IfOk result (StepHolds limit reader.now whole bs) }
-    ensures falls { IfOk result (λ s. step_weight (length reader.now) s < 20 * (length reader.now - at) + 6) }
+) -> Result<FormulaStep, NoMemory>
+    ensures holds { Resumes (meaning limit reader.now) (Frame.Not stage) piece at result }
+    ensures falls { Falls (meaning limit reader.now) (weight_at reader.now at 6) result }
 {
     let piece = unary_piece(alloc, limit, NOT_WORD, piece)?;
     Ok(Step::Go(State::Literal(piece, at, stage)))
@@ -199,9 +201,9 @@ pub(crate) fn after_relation(
     stage: Stage,
     piece: RawPiece,
     at: usize,
-) -> Result<Step, NoMemory>
-    ensures holds { (whole : ℕ → Option (Found RawTree)) → (bs : List (Behind RawTree)) → (cs : List (Behind RawTree)) → (r : RawTree) → IsFrame limit (Frame.Relation mark left stage) cs → IsRaw limit piece r → Reach whole (bs ++ cs) (Some (r, drop at reader.now)) → at ≤ length reader.now → IfOk result (StepHolds limit reader.now whole bs) }
-    ensures falls { IfOk result (λ s. step_weight (length reader.now) s < 20 * (length reader.now - at) + 6) }
+) -> Result<FormulaStep, NoMemory>
+    ensures holds { Resumes (meaning limit reader.now) (Frame.Relation mark left stage) piece at result }
+    ensures falls { Falls (meaning limit reader.now) (weight_at reader.now at 6) result }
 {
     let piece = binary_piece(alloc, limit, mark, left, piece)?;
     Ok(Step::Go(State::Literal(piece, at, stage)))
@@ -217,9 +219,9 @@ pub(crate) fn after_connective(
     stage: Stage,
     piece: RawPiece,
     at: usize,
-) -> Result<Step, NoMemory>
-    ensures holds { (whole : ℕ → Option (Found RawTree)) → (bs : List (Behind RawTree)) → (cs : List (Behind RawTree)) → (r : RawTree) → IsFrame limit (Frame.Connective mark left stage) cs → IsRaw limit piece r → Reach whole (bs ++ cs) (Some (r, drop at reader.now)) → at ≤ length reader.now → IfOk result (StepHolds limit reader.now whole bs) }
-    ensures falls { IfOk result (λ s. step_weight (length reader.now) s < 20 * (length reader.now - at) + 6) }
+) -> Result<FormulaStep, NoMemory>
+    ensures holds { Resumes (meaning limit reader.now) (Frame.Connective mark left stage) piece at result }
+    ensures falls { Falls (meaning limit reader.now) (weight_at reader.now at 6) result }
 {
     let piece = binary_piece(alloc, limit, mark, left, piece)?;
     Ok(Step::Go(State::Chain(mark, piece, at, stage)))
@@ -234,10 +236,10 @@ pub(crate) fn after_implication(
     left: RawPiece,
     piece: RawPiece,
     at: usize,
-) -> Result<Step, NoMemory>
-    ensures holds { (whole : ℕ → Option (Found RawTree)) → (bs : List (Behind RawTree)) → (cs : List (Behind RawTree)) → (r : RawTree) → IsFrame limit (Frame.Implication mark left) cs → IsRaw limit piece r → Reach whole (bs ++ cs) (Some (r, drop at reader.now)) → at ≤ length reader.now → IfOk result (StepHolds limit reader.now whole bs) }
-    ensures falls { IfOk result (λ s. step_weight (length reader.now) s < 20 * (length reader.now - at) + 6) }
+) -> Result<FormulaStep, NoMemory>
+    ensures holds { Resumes (meaning limit reader.now) (Frame.Implication mark left) piece at result }
+    ensures falls { Falls (meaning limit reader.now) (weight_at reader.now at 6) result }
 {
     let piece = binary_piece(alloc, limit, mark, left, piece)?;
-    Ok(Step::Go(State::Found(piece, at)))
+    Ok(Step::Found(piece, at))
 }

@@ -10,7 +10,7 @@ use crate::endings::ends_at;
 use crate::formula_reader::{read_expression, read_predicate};
 use crate::states::RawPiece;
 use ev_syntax::type_reader::read_type;
-use ev_syntax::{Piece, Raw, RawForm, RawType, Reader, Sort};
+use ev_syntax::{FormulaForm, Piece, Raw, RawType, Reader, Sort};
 use ev_terms::NoMemory;
 use std::alloc::Global;
 
@@ -30,7 +30,7 @@ fn written_type(alloc: Global, piece: Piece<RawType>) -> Result<Piece<Raw>, NoMe
 {
     match piece {
         Piece::Whole(a, depth) => {
-            let raw = Raw::new(alloc, RawForm::Written(a))?;
+            let raw = Raw::new(alloc, FormulaForm::Written(a))?;
             Ok(Piece::Whole(raw, depth))
         }
         Piece::Deep => Ok(Piece::Deep),

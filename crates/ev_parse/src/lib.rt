@@ -21,8 +21,8 @@ mod states;
 
 pub use closings::closings_of;
 pub use ev_syntax::{
-    Binder, Binders, ParseFault, Pattern, PatternForm, Piece, Raw, RawForm, RawType, RawTypeForm,
-    RawTypes, Raws, Reader, Sort, grammar_laws, parse_type,
+    Binder, Binders, FormulaForm, ParseFault, Pattern, PatternForm, Piece, Raw, RawType,
+    RawTypeForm, RawTypes, Raws, Reader, Sort, grammar_laws, parse_type,
 };
 pub use formula::parse_formula;
 pub use front::parse_front;

@@ -4,13 +4,15 @@ ghost use Rattle.ev_syntax.specs.Raw.{Raw as RawTree};
 ghost use Rattle.ev_syntax.specs.inner.Finding.{Found};
 ghost use Rattle.ev_syntax.specs.inner.Resuming.{Behind, Reach};
 ghost use Rattle.ev_parse.specs.inner.Forms.{IsRaw};
-ghost use Rattle.ev_parse.specs.inner.Frames.{IsFrame, StepHolds, step_weight};
+ghost use Rattle.ev_syntax.specs.inner.Machines.{Falls, Resumes, weight_at};
+ghost use Rattle.ev_parse.specs.inner.Frames.{meaning};
 
 use crate::expression_reader::close;
 use crate::raw_pieces::{args_with, call_piece, collected_piece, members_piece, members_with};
-use crate::states::{Frame, Goal, RawPiece, State, Step};
+use crate::states::{FormulaStep, Frame, Goal, RawPiece, State};
 use ev_syntax::binders::Binders;
 use ev_syntax::formulas::Raws;
+use ev_syntax::machines::Step;
 use ev_syntax::mark_names::{CLOSE_BRACE, CLOSE_PAREN, COMMA, OPEN_BRACE};
 use ev_syntax::read_pieces::Piece;
 use ev_syntax::reader::Reader;
@@ -27,9 +29,9 @@ pub(crate) fn after_args(
     k: u8,
     piece: RawPiece,
     at: usize,
-) -> Result<Step, NoMemory>
-    ensures holds { (whole : ℕ → Option (Found RawTree)) → (bs : List (Behind RawTree)) → (cs : List (Behind RawTree)) → (r : RawTree) → IsFrame limit (Frame.Args name args k) cs → IsRaw limit piece r → Reach whole (bs ++ cs) (Some (r, drop at reader.now)) → at ≤ length reader.now → IfOk result (StepHolds limit reader.now whole bs) }
-    ensures falls { IfOk result (λ s. step_weight (length reader.now) s < 20 * (length reader.now - at) + 6) }
+) -> Result<FormulaStep, NoMemory>
+    ensures holds { Resumes (meaning limit reader.now) (Frame.Args name args k) piece at result }
+    ensures falls { Falls (meaning limit reader.now) (weight_at reader.now at 6) result }
 {
     let args = args_with(alloc, limit, args, piece)?;
     if reader.is_mark(at, COMMA) {
@@ -49,9 +51,9 @@ pub(crate) fn after_members(
     k: u8,
     piece: RawPiece,
     at: usize,
-) -> Result<Step, NoMemory>
-    ensures holds { (whole : ℕ → Option (Found RawTree)) → (bs : List (Behind RawTree)) → (cs : List (Behind RawTree)) → (r : RawTree) → IsFrame limit (Frame.Members members k) cs → IsRaw limit piece r → Reach whole (bs ++ cs) (Some (r, drop at reader.now)) → at ≤ length reader.now → IfOk result (StepHolds limit reader.now whole bs) }
-    ensures falls { IfOk result (λ s. step_weight (length reader.now) s < 20 * (length reader.now - at) + 6) }
+) -> Result<FormulaStep, NoMemory>
+    ensures holds { Resumes (meaning limit reader.now) (Frame.Members members k) piece at result }
+    ensures falls { Falls (meaning limit reader.now) (weight_at reader.now at 6) result }
 {
     let members = members_with(alloc, limit, members, piece)?;
     if reader.is_mark(at, COMMA) {
@@ -73,13 +75,13 @@ pub(crate) fn after_collected(
     k: u8,
     piece: RawPiece,
     at: usize,
-) -> Result<Step, NoMemory>
-    ensures holds { (whole : ℕ → Option (Found RawTree)) → (bs : List (Behind RawTree)) → (cs : List (Behind RawTree)) → (r : RawTree) → IsFrame limit (Frame.Value mark binders body k) cs → IsRaw limit piece r → Reach whole (bs ++ cs) (Some (r, drop at reader.now)) → at ≤ length reader.now → IfOk result (StepHolds limit reader.now whole bs) }
-    ensures falls { IfOk result (λ s. step_weight (length reader.now) s < 20 * (length reader.now - at) + 6) }
+) -> Result<FormulaStep, NoMemory>
+    ensures holds { Resumes (meaning limit reader.now) (Frame.Value mark binders body k) piece at result }
+    ensures falls { Falls (meaning limit reader.now) (weight_at reader.now at 6) result }
 {
     let piece = collected_piece(alloc, limit, mark, binders, body, piece)?;
     if mark == OPEN_BRACE {
         return close(reader, limit, piece, k, at, CLOSE_BRACE);
     }
-    Ok(Step::Go(State::Found(piece, at)))
+    Ok(Step::Found(piece, at))
 }

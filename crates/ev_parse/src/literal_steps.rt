@@ -8,19 +8,21 @@ ghost use Rattle.ev_syntax.specs.inner.RawView.{raw_of};
 ghost use Rattle.ev_syntax.specs.inner.Finding.{Found};
 ghost use Rattle.ev_syntax.specs.inner.TypeParser.{begins, expect};
 ghost use Rattle.ev_syntax.specs.inner.Resuming.{Behind, Reach, FromCall};
-ghost use Rattle.ev_syntax.specs.inner.Seeing.{Sees, IsInside};
+ghost use Rattle.ev_syntax.specs.inner.TokenAt.{IsTokenAt, IsIndex};
 ghost use Rattle.ev_syntax.specs.inner.Pieces.{IsPiece};
 ghost use Rattle.ev_syntax.specs.Parts.{is_among};
 ghost use Rattle.ev_syntax.specs.inner.FormulaParser.{words, calls};
 ghost use Rattle.ev_parse.specs.inner.Forms.{IsRaw};
 ghost use Rattle.ev_syntax.specs.inner.FormulaParser as parser;
-ghost use Rattle.ev_parse.specs.inner.Frames.{IsFrame, StepHolds, stage_tail, related_behind, step_weight};
+ghost use Rattle.ev_syntax.specs.inner.Machines.{Falls, GoesOn, Resumes, StepHolds, weight_at};
+ghost use Rattle.ev_parse.specs.inner.Frames.{stage_tail, related_behind, meaning};
 
 use crate::marks::is_relation;
 use crate::raw_pieces::{around_piece, binary_piece, is_name, quantified_piece};
-use crate::states::{Frame, Goal, RawPiece, Stage, State, Step};
+use crate::states::{FormulaStep, Frame, Goal, RawPiece, Stage, State};
 use ev_syntax::TokenKind;
 use ev_syntax::binders::Binders;
+use ev_syntax::machines::Step;
 use ev_syntax::mark_names::{AND_SIGN, CLOSE_PAREN, FINITE_WORD, IFF_SIGN, IMPLIES_SIGN, OR_WORD};
 use ev_syntax::read_pieces::Piece;
 use ev_syntax::reader::Reader;
@@ -48,9 +50,9 @@ pub(crate) fn after_sign(
     k: u8,
     piece: RawPiece,
     at: usize,
-) -> Result<Step, NoMemory>
-    ensures holds { (whole : ℕ → Option (Found RawTree)) → (bs : List (Behind RawTree)) → (cs : List (Behind RawTree)) → (r : RawTree) → IsFrame limit (Frame.Right mark level left k) cs → IsRaw limit piece r → Reach whole (bs ++ cs) (Some (r, drop at reader.now)) → at ≤ length reader.now → IfOk result (StepHolds limit reader.now whole bs) }
-    ensures falls { IfOk result (λ s. step_weight (length reader.now) s < 20 * (length reader.now - at) + 6) }
+) -> Result<FormulaStep, NoMemory>
+    ensures holds { Resumes (meaning limit reader.now) (Frame.Right mark level left k) piece at result }
+    ensures falls { Falls (meaning limit reader.now) (weight_at reader.now at 6) result }
 {
     let piece = binary_piece(alloc, limit, mark, left, piece)?;
     if level == 4 || level >= 8 {
@@ -66,14 +68,14 @@ pub(crate) fn after_paren(
     stage: Stage,
     piece: RawPiece,
     at: usize,
-) -> Result<Step, NoMemory>
-    ensures holds { (whole : ℕ → Option (Found RawTree)) → (bs : List (Behind RawTree)) → (cs : List (Behind RawTree)) → (r : RawTree) → IsFrame limit (Frame.Inner stage) cs → IsRaw limit piece r → Reach whole (bs ++ cs) (Some (r, drop at reader.now)) → at ≤ length reader.now → IfOk result (StepHolds limit reader.now whole bs) }
-    ensures falls { IfOk result (λ s. step_weight (length reader.now) s < 20 * (length reader.now - at) + 6) }
+) -> Result<FormulaStep, NoMemory>
+    ensures holds { Resumes (meaning limit reader.now) (Frame.Inner stage) piece at result }
+    ensures falls { Falls (meaning limit reader.now) (weight_at reader.now at 6) result }
 {
     if reader.is_mark(at, CLOSE_PAREN) {
         return Ok(Step::Go(State::Literal(piece, at + 1, stage)));
     }
-    Ok(Step::Go(State::Fail))
+    Ok(Step::Fail)
 }
 
 /// After `finite(`.
@@ -84,12 +86,12 @@ pub(crate) fn after_finite(
     stage: Stage,
     piece: RawPiece,
     at: usize,
-) -> Result<Step, NoMemory>
-    ensures holds { (whole : ℕ → Option (Found RawTree)) → (bs : List (Behind RawTree)) → (cs : List (Behind RawTree)) → (r : RawTree) → IsFrame limit (Frame.Finite stage) cs → IsRaw limit piece r → Reach whole (bs ++ cs) (Some (r, drop at reader.now)) → at ≤ length reader.now → IfOk result (StepHolds limit reader.now whole bs) }
-    ensures falls { IfOk result (λ s. step_weight (length reader.now) s < 20 * (length reader.now - at) + 6) }
+) -> Result<FormulaStep, NoMemory>
+    ensures holds { Resumes (meaning limit reader.now) (Frame.Finite stage) piece at result }
+    ensures falls { Falls (meaning limit reader.now) (weight_at reader.now at 6) result }
 {
     if !reader.is_mark(at, CLOSE_PAREN) {
-        return Ok(Step::Go(State::Fail));
+        return Ok(Step::Fail);
     }
     let piece = around_piece(alloc, limit, FINITE_WORD, piece)?;
     Ok(Step::Go(State::Literal(piece, at + 1, stage)))
@@ -105,26 +107,26 @@ pub(crate) fn after_quantifier(
     stage: Stage,
     piece: RawPiece,
     at: usize,
-) -> Result<Step, NoMemory>
-    ensures holds { (whole : ℕ → Option (Found RawTree)) → (bs : List (Behind RawTree)) → (cs : List (Behind RawTree)) → (r : RawTree) → IsFrame limit (Frame.Quantified mark binders stage) cs → IsRaw limit piece r → Reach whole (bs ++ cs) (Some (r, drop at reader.now)) → at ≤ length reader.now → IfOk result (StepHolds limit reader.now whole bs) }
-    ensures falls { IfOk result (λ s. step_weight (length reader.now) s < 20 * (length reader.now - at) + 6) }
+) -> Result<FormulaStep, NoMemory>
+    ensures holds { Resumes (meaning limit reader.now) (Frame.Quantified mark binders stage) piece at result }
+    ensures falls { Falls (meaning limit reader.now) (weight_at reader.now at 6) result }
 {
     if connects(reader, at) {
-        return Ok(Step::Go(State::Fail));
+        return Ok(Step::Fail);
     }
     let piece = quantified_piece(alloc, limit, mark, binders, piece)?;
     Ok(Step::Go(State::Literal(piece, at, stage)))
 }
 
 /// A name alone that is a predicate.
-fn named(reader: &Reader<'_>, limit: u32, stage: Stage, piece: RawPiece, at: usize) -> Step
-    ensures holds { (whole : ℕ → Option (Found RawTree)) → (bs : List (Behind RawTree)) → (r : RawTree) → IsRaw limit piece r → Reach whole (bs ++ stage_tail stage) (parser.call_only r (drop at reader.now)) → at ≤ length reader.now → StepHolds limit reader.now whole bs result }
-    ensures falls { step_weight (length reader.now) result < 20 * (length reader.now - at) + 6 }
+fn named(reader: &Reader<'_>, limit: u32, stage: Stage, piece: RawPiece, at: usize) -> FormulaStep
+    ensures holds { (whole : ℕ → Option (Found RawTree)) → (bs : List (Behind RawTree)) → (r : RawTree) → IsRaw limit piece r → Reach whole (bs ++ stage_tail stage) (parser.call_only r (drop at reader.now)) → at ≤ length reader.now → StepHolds (meaning limit reader.now) whole bs result }
+    ensures falls { Falls (meaning limit reader.now) (weight_at reader.now at 6) (Ok result) }
 {
     if is_name(&piece) {
         Step::Go(State::Literal(piece, at, stage))
     } else {
-        Step::Go(State::Fail)
+        Step::Fail
     }
 }
 
@@ -136,11 +138,11 @@ fn related_mark(
     piece: RawPiece,
     at: usize,
     mark: u16,
-) -> Step
-    requires inside { IsInside reader.now at }
-    requires seen { Sees (Some (AMark mark)) reader.now at }
-    ensures holds { (whole : ℕ → Option (Found RawTree)) → (bs : List (Behind RawTree)) → (r : RawTree) → IsRaw limit piece r → Reach whole (bs ++ (stage_tail stage ++ related_behind ∷ [])) (Some (r, drop at reader.now)) → at ≤ length reader.now → StepHolds limit reader.now whole bs result }
-    ensures falls { step_weight (length reader.now) result < 20 * (length reader.now - at) + 6 }
+) -> FormulaStep
+    requires inside { IsIndex reader.now at }
+    requires token { IsTokenAt (Some (AMark mark)) reader.now at }
+    ensures holds { GoesOn (meaning limit reader.now) (stage_tail stage ++ related_behind ∷ []) piece at (Ok result) }
+    ensures falls { Falls (meaning limit reader.now) (weight_at reader.now at 6) (Ok result) }
 {
     if is_relation(mark) {
         let inner = State::Call(Goal::Level(0), at + 1);
@@ -156,9 +158,9 @@ pub(crate) fn after_expression(
     stage: Stage,
     piece: RawPiece,
     at: usize,
-) -> Step
-    ensures holds { (whole : ℕ → Option (Found RawTree)) → (bs : List (Behind RawTree)) → (r : RawTree) → IsRaw limit piece r → Reach whole (bs ++ (stage_tail stage ++ related_behind ∷ [])) (Some (r, drop at reader.now)) → at ≤ length reader.now → StepHolds limit reader.now whole bs result }
-    ensures falls { step_weight (length reader.now) result < 20 * (length reader.now - at) + 6 }
+) -> FormulaStep
+    ensures holds { GoesOn (meaning limit reader.now) (stage_tail stage ++ related_behind ∷ []) piece at (Ok result) }
+    ensures falls { Falls (meaning limit reader.now) (weight_at reader.now at 6) (Ok result) }
 {
     match reader.kind(at) {
         Some(TokenKind::Mark(mark)) => related_mark(reader, limit, stage, piece, at, mark),

@@ -1,12 +1,8 @@
-//! The machine that reads formulas: its steps, and the stack of what is left to do.
-ghost use Rattle.std.specs.Prelude.{◌≡◌, ◌<◌, ◌≤◌, ◌+◌, ◌*◌, ◌-◌, ◌++◌, [], ℕ, List, Option, Some, length, drop, IfOk};
-ghost use Rattle.ev_syntax.specs.Tokens.{Token as SpecToken};
-ghost use Rattle.ev_syntax.specs.Raw.{Raw as RawTree};
-ghost use Rattle.ev_syntax.specs.inner.Finding.{Found};
-ghost use Rattle.ev_syntax.specs.inner.Resuming.{Behind, Reach};
-ghost use Rattle.ev_parse.specs.inner.Forms.{IsRaw};
-ghost use Rattle.ev_parse.specs.inner.Closings.{IsTable};
-ghost use Rattle.ev_parse.specs.inner.Frames.{goal_at, IsGoal, IsFrame, IsStack, PieceReaches, StateHolds, StepHolds, Holds, state_weight, step_weight};
+//! The machine that reads formulas.
+ghost use Rattle.std.specs.Prelude.{◌≡◌, ◌≤◌, ◌+◌, length, IfOk};
+ghost use Rattle.ev_parse.specs.inner.Closings.{IsTable, table_prop};
+ghost use Rattle.ev_syntax.specs.inner.Machines.{Falls, Goes, Resumes, weight_at};
+ghost use Rattle.ev_parse.specs.inner.Frames.{IsGoal, meaning, state_weight};
 ghost use Rattle.ev_parse.specs.inner.FormulaAnswers.{GoalAnswer};
 
 use crate::expression_reader::{call_level, close};
@@ -20,9 +16,9 @@ use crate::literal_steps::{
 };
 use crate::operand_reader::{operand, primary};
 use crate::predicate_reader::{call_stage, chain, conjunct, literal};
-use crate::states::{Frame, Goal, RawPiece, State, Step};
+use crate::states::{FormulaStep, Frame, Goal, RawPiece, State};
+use ev_syntax::machines::{Machine, run};
 use ev_syntax::mark_names::CLOSE_PAREN;
-use ev_syntax::read_pieces::push;
 use ev_syntax::reader::Reader;
 use ev_terms::NoMemory;
 use std::alloc::Global;
@@ -35,11 +31,11 @@ fn call(
     table: &[Option<usize>],
     goal: Goal,
     at: usize,
-) -> Result<Step, NoMemory>
+) -> Result<FormulaStep, NoMemory>
     requires table { IsTable reader.now table.now }
     requires full { length table.now ≡ length reader.now + 1 }
-    ensures holds { (whole : ℕ → Option (Found RawTree)) → (bs : List (Behind RawTree)) → StateHolds limit reader.now whole bs (State.Call goal at) → IfOk result (StepHolds limit reader.now whole bs) }
-    ensures falls { IfOk result (λ s. step_weight (length reader.now) s < state_weight (length reader.now) (State.Call goal at)) }
+    ensures holds { Goes (meaning limit reader.now) (State.Call goal at) result }
+    ensures falls { Falls (meaning limit reader.now) (state_weight reader.now (State.Call goal at)) result }
 {
     match goal {
         Goal::Level(k) => call_level(reader, alloc, limit, k, at),
@@ -55,9 +51,9 @@ fn resume(
     frame: Frame,
     piece: RawPiece,
     at: usize,
-) -> Result<Step, NoMemory>
-    ensures holds { (whole : ℕ → Option (Found RawTree)) → (bs : List (Behind RawTree)) → (cs : List (Behind RawTree)) → (r : RawTree) → IsFrame limit frame cs → IsRaw limit piece r → Reach whole (bs ++ cs) (Some (r, drop at reader.now)) → at ≤ length reader.now → IfOk result (StepHolds limit reader.now whole bs) }
-    ensures falls { IfOk result (λ s. step_weight (length reader.now) s < 20 * (length reader.now - at) + 6) }
+) -> Result<FormulaStep, NoMemory>
+    ensures holds { Resumes (meaning limit reader.now) frame piece at result }
+    ensures falls { Falls (meaning limit reader.now) (weight_at reader.now at 6) result }
 {
     match frame {
         Frame::Paren(k) => close(reader, limit, piece, k, at, CLOSE_PAREN),
@@ -92,73 +88,45 @@ fn resume(
     }
 }
 
-/// Goes on with a step, whose frame is pushed.
-fn enter(stack: &mut Vec<Frame>, step: Step) -> Result<State, NoMemory>
-    ensures holds { (limit : ℕ) → (ts : List SpecToken) → (whole : ℕ → Option (Found RawTree)) → (bs : List (Behind RawTree)) → IsStack limit stack.old.items bs → StepHolds limit ts whole bs step → IfOk result (λ s. Holds limit ts whole stack.new.items s) }
-    ensures falls { (len : ℕ) → IfOk result (λ s. state_weight len s + 5 * length stack.new.items ≤ step_weight len step + 5 * length stack.old.items) }
-{
-    match step {
-        Step::Go(state) => Ok(state),
-        Step::Push(frame, state) => {
-            push(stack, frame)?;
-            Ok(state)
+/// The machine that reads formulas of a text, with the table of its closing parentheses.
+#[derive(Drop)]
+struct FormulaMachine<'a> {
+    reader: &'a Reader<'a>,
+    alloc: Global,
+    limit: u32,
+    table: &'a [Option<usize>],
+    ghost closings: { IsTable reader.now table.now } by { table_prop reader.now table.now },
+    ghost full: { length table.now ≡ length reader.now + 1 },
+}
+
+impl<'a> Machine for FormulaMachine<'a> {
+    type Frame = Frame;
+
+    type State = State;
+
+    type Piece = RawPiece;
+
+    ghost use Rattle.ev_syntax.specs.Raw.{Raw as RawTree};
+    ghost use Rattle.ev_parse.specs.inner.Frames.{meaning};
+
+    ghost Tree = { RawTree };
+
+    ghost meaning = { λ m. meaning m.limit m.reader.now };
+
+    fn step(&self, state: State) -> Result<FormulaStep, NoMemory> {
+        let (reader, alloc, limit) = (self.reader, self.alloc, self.limit);
+        match state {
+            State::Call(goal, at) => call(reader, alloc, limit, self.table, goal, at),
+            State::Primary(piece, at, k) => primary(reader, alloc, limit, piece, at, k),
+            State::Operand(piece, at, j, k) => operand(reader, alloc, limit, piece, at, j, k),
+            State::Literal(piece, at, s) => Ok(literal(reader, limit, piece, at, s)),
+            State::Chain(mark, piece, at, s) => Ok(chain(reader, limit, mark, piece, at, s)),
+            State::Conjunct(piece, at, s) => Ok(conjunct(reader, limit, piece, at, s)),
         }
     }
-}
 
-/// Does the last frame with the formula that was found, or ends.
-fn pop(
-    reader: &Reader<'_>,
-    alloc: Global,
-    limit: u32,
-    stack: &mut Vec<Frame>,
-    piece: RawPiece,
-    at: usize,
-) -> Result<State, NoMemory>
-    ensures holds { (whole : ℕ → Option (Found RawTree)) → (bs : List (Behind RawTree)) → IsStack limit stack.old.items bs → PieceReaches limit reader.now whole bs piece at → IfOk result (λ s. Holds limit reader.now whole stack.new.items s) }
-    ensures falls { IfOk result (λ s. state_weight (length reader.now) s + 5 * length stack.new.items < 20 * (length reader.now - at) + 1 + 5 * length stack.old.items) }
-{
-    let Some(frame) = stack.pop() else {
-        return Ok(State::End(piece, at));
-    };
-    let step = resume(reader, alloc, limit, frame, piece, at)?;
-    enter(stack, step)
-}
-
-/// One step of the machine.
-fn step(
-    reader: &Reader<'_>,
-    alloc: Global,
-    limit: u32,
-    table: &[Option<usize>],
-    stack: &mut Vec<Frame>,
-    state: State,
-) -> Result<State, NoMemory>
-    requires table { IsTable reader.now table.now }
-    requires full { length table.now ≡ length reader.now + 1 }
-    requires going { 0 < state_weight (length reader.now) state }
-    ensures holds { (whole : ℕ → Option (Found RawTree)) → Holds limit reader.now whole stack.old.items state → IfOk result (λ s. Holds limit reader.now whole stack.new.items s) }
-    ensures falls { IfOk result (λ s. state_weight (length reader.now) s + 5 * length stack.new.items < state_weight (length reader.now) state + 5 * length stack.old.items) }
-{
-    match state {
-        State::Call(goal, at) => {
-            let step = call(reader, alloc, limit, table, goal, at)?;
-            enter(stack, step)
-        }
-        State::Primary(piece, at, k) => {
-            let step = primary(reader, alloc, limit, piece, at, k)?;
-            enter(stack, step)
-        }
-        State::Operand(piece, at, j, k) => {
-            let step = operand(reader, alloc, limit, piece, at, j, k)?;
-            enter(stack, step)
-        }
-        State::Literal(piece, at, s) => enter(stack, literal(reader, limit, piece, at, s)),
-        State::Chain(mark, piece, at, s) => enter(stack, chain(reader, limit, mark, piece, at, s)),
-        State::Conjunct(piece, at, s) => enter(stack, conjunct(reader, limit, piece, at, s)),
-        State::Found(piece, at) => pop(reader, alloc, limit, stack, piece, at),
-        State::End(piece, at) => Ok(State::End(piece, at)),
-        State::Fail => Ok(State::Fail),
+    fn resume(&self, frame: Frame, piece: RawPiece, at: usize) -> Result<FormulaStep, NoMemory> {
+        resume(self.reader, self.alloc, self.limit, frame, piece, at)
     }
 }
 
@@ -177,13 +145,11 @@ pub(crate) fn read_goal(
     requires level { IsGoal goal }
     ensures { IfOk result (GoalAnswer goal limit reader.now at) }
 {
-    let mut stack = Vec::new(alloc);
-    let mut state = State::Call(goal, at);
-    loop {
-        match state {
-            State::End(piece, to) => return Ok(Some((piece, to))),
-            State::Fail => return Ok(None),
-            going => state = step(reader, alloc, limit, table, &mut stack, going)?,
-        }
-    }
+    let machine = FormulaMachine {
+        reader,
+        alloc,
+        limit,
+        table,
+    };
+    run(&machine, alloc, State::Call(goal, at))
 }

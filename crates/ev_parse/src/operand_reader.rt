@@ -8,18 +8,20 @@ ghost use Rattle.ev_syntax.specs.inner.RawView.{raw_of};
 ghost use Rattle.ev_syntax.specs.inner.Finding.{Found};
 ghost use Rattle.ev_syntax.specs.inner.TypeParser.{begins, expect};
 ghost use Rattle.ev_syntax.specs.inner.Resuming.{Behind, Reach, FromCall};
-ghost use Rattle.ev_syntax.specs.inner.Seeing.{Sees, IsInside};
+ghost use Rattle.ev_syntax.specs.inner.TokenAt.{IsTokenAt, IsIndex};
 ghost use Rattle.ev_syntax.specs.inner.Pieces.{IsPiece};
 ghost use Rattle.ev_syntax.specs.Parts.{is_among};
 ghost use Rattle.ev_syntax.specs.inner.FormulaParser.{words, calls};
 ghost use Rattle.ev_parse.specs.inner.Forms.{IsRaw};
 ghost use Rattle.ev_parse.specs.inner.Levels.{operator_level};
-ghost use Rattle.ev_parse.specs.inner.Frames.{between, tail, level_behind, StepHolds, step_weight};
+ghost use Rattle.ev_syntax.specs.inner.Machines.{Falls, GoesOn, weight_at};
+ghost use Rattle.ev_parse.specs.inner.Frames.{between, tail, level_behind, meaning};
 
 use crate::marks::operator_level;
 use crate::raw_pieces::{inverse_piece, typed_piece};
-use crate::states::{Frame, Goal, RawPiece, State, Step};
+use crate::states::{FormulaStep, Frame, Goal, RawPiece, State};
 use ev_syntax::TokenKind;
+use ev_syntax::machines::Step;
 use ev_syntax::mark_names::{INVERSE_SIGN, OFTYPE_WORD, OPEN_BRACKET, OPEN_PAREN};
 use ev_syntax::reader::Reader;
 use ev_syntax::type_reader::read_type;
@@ -34,9 +36,9 @@ pub(crate) fn primary(
     piece: RawPiece,
     at: usize,
     k: u8,
-) -> Result<Step, NoMemory>
-    ensures holds { (whole : ℕ → Option (Found RawTree)) → (bs : List (Behind RawTree)) → (r : RawTree) → IsRaw limit piece r → Reach whole (bs ++ tail k) (Some (r, drop at reader.now)) → at ≤ length reader.now → IfOk result (StepHolds limit reader.now whole bs) }
-    ensures falls { IfOk result (λ s. step_weight (length reader.now) s < 20 * (length reader.now - at) + 3) }
+) -> Result<FormulaStep, NoMemory>
+    ensures holds { GoesOn (meaning limit reader.now) (tail k) piece at result }
+    ensures falls { Falls (meaning limit reader.now) (weight_at reader.now at 3) result }
 {
     if reader.is_mark(at, INVERSE_SIGN) {
         let piece = inverse_piece(alloc, limit, piece)?;
@@ -67,18 +69,18 @@ fn typed(
     limit: u32,
     piece: RawPiece,
     at: usize,
-) -> Result<Step, NoMemory>
-    requires inside { IsInside reader.now at }
-    requires seen { Sees (Some (AMark OFTYPE_WORD)) reader.now at }
-    ensures holds { (whole : ℕ → Option (Found RawTree)) → (bs : List (Behind RawTree)) → (r : RawTree) → IsRaw limit piece r → Reach whole (bs ++ level_behind 0 ∷ []) (Some (r, drop at reader.now)) → at ≤ length reader.now → IfOk result (StepHolds limit reader.now whole bs) }
-    ensures falls { IfOk result (λ s. step_weight (length reader.now) s < 20 * (length reader.now - at) + 2) }
+) -> Result<FormulaStep, NoMemory>
+    requires inside { IsIndex reader.now at }
+    requires token { IsTokenAt (Some (AMark OFTYPE_WORD)) reader.now at }
+    ensures holds { GoesOn (meaning limit reader.now) (level_behind 0 ∷ []) piece at result }
+    ensures falls { Falls (meaning limit reader.now) (weight_at reader.now at 2) result }
 {
     match read_type(reader, alloc, limit, at + 1)? {
         Some((written, to)) => {
             let piece = typed_piece(alloc, limit, piece, written)?;
-            Ok(Step::Go(State::Found(piece, to)))
+            Ok(Step::Found(piece, to))
         }
-        None => Ok(Step::Go(State::Fail)),
+        None => Ok(Step::Fail),
     }
 }
 
@@ -92,11 +94,11 @@ fn operand_mark(
     j: u8,
     k: u8,
     mark: u16,
-) -> Result<Step, NoMemory>
-    requires inside { IsInside reader.now at }
-    requires seen { Sees (Some (AMark mark)) reader.now at }
-    ensures holds { (whole : ℕ → Option (Found RawTree)) → (bs : List (Behind RawTree)) → (r : RawTree) → IsRaw limit piece r → Reach whole (bs ++ between k j) (Some (r, drop at reader.now)) → at ≤ length reader.now → IfOk result (StepHolds limit reader.now whole bs) }
-    ensures falls { IfOk result (λ s. step_weight (length reader.now) s < 20 * (length reader.now - at) + 2) }
+) -> Result<FormulaStep, NoMemory>
+    requires inside { IsIndex reader.now at }
+    requires token { IsTokenAt (Some (AMark mark)) reader.now at }
+    ensures holds { GoesOn (meaning limit reader.now) (between k j) piece at result }
+    ensures falls { Falls (meaning limit reader.now) (weight_at reader.now at 2) result }
 {
     let level = operator_level(mark);
     if in_range(level, j, k) {
@@ -104,13 +106,13 @@ fn operand_mark(
         return Ok(Step::Push(Frame::Right(mark, level, piece, k), inner));
     }
     if mark != OFTYPE_WORD {
-        return Ok(Step::Go(State::Found(piece, at)));
+        return Ok(Step::Found(piece, at));
     }
     if k > 0 {
-        return Ok(Step::Go(State::Found(piece, at)));
+        return Ok(Step::Found(piece, at));
     }
     if j == 0 {
-        return Ok(Step::Go(State::Found(piece, at)));
+        return Ok(Step::Found(piece, at));
     }
     typed(reader, alloc, limit, piece, at)
 }
@@ -124,14 +126,14 @@ pub(crate) fn operand(
     at: usize,
     j: u8,
     k: u8,
-) -> Result<Step, NoMemory>
-    ensures holds { (whole : ℕ → Option (Found RawTree)) → (bs : List (Behind RawTree)) → (r : RawTree) → IsRaw limit piece r → Reach whole (bs ++ between k j) (Some (r, drop at reader.now)) → at ≤ length reader.now → IfOk result (StepHolds limit reader.now whole bs) }
-    ensures falls { IfOk result (λ s. step_weight (length reader.now) s < 20 * (length reader.now - at) + 2) }
+) -> Result<FormulaStep, NoMemory>
+    ensures holds { GoesOn (meaning limit reader.now) (between k j) piece at result }
+    ensures falls { Falls (meaning limit reader.now) (weight_at reader.now at 2) result }
 {
     match reader.kind(at) {
         Some(TokenKind::Mark(mark)) => operand_mark(reader, alloc, limit, piece, at, j, k, mark),
-        Some(TokenKind::Name) => Ok(Step::Go(State::Found(piece, at))),
-        Some(TokenKind::Number(_)) => Ok(Step::Go(State::Found(piece, at))),
-        None => Ok(Step::Go(State::Found(piece, at))),
+        Some(TokenKind::Name) => Ok(Step::Found(piece, at)),
+        Some(TokenKind::Number(_)) => Ok(Step::Found(piece, at)),
+        None => Ok(Step::Found(piece, at)),
     }
 }

@@ -8,26 +8,28 @@ ghost use Rattle.ev_syntax.specs.inner.RawView.{raw_of};
 ghost use Rattle.ev_syntax.specs.inner.Finding.{Found};
 ghost use Rattle.ev_syntax.specs.inner.TypeParser.{begins, expect};
 ghost use Rattle.ev_syntax.specs.inner.Resuming.{Behind, Reach, FromCall};
-ghost use Rattle.ev_syntax.specs.inner.Seeing.{Sees, IsInside};
+ghost use Rattle.ev_syntax.specs.inner.TokenAt.{IsTokenAt, IsIndex};
 ghost use Rattle.ev_syntax.specs.inner.Pieces.{IsPiece};
 ghost use Rattle.ev_syntax.specs.Parts.{is_among};
 ghost use Rattle.ev_syntax.specs.inner.FormulaParser.{words, calls};
 ghost use Rattle.ev_parse.specs.inner.Forms.{IsRaw};
-ghost use Rattle.ev_syntax.specs.inner.Looking.{operator_of, is_from};
-ghost use Rattle.ev_syntax.specs.inner.Looking as looking;
+ghost use Rattle.ev_syntax.specs.inner.Lookahead.{operator_of, is_from};
+ghost use Rattle.ev_syntax.specs.inner.Lookahead as looking;
 ghost use Rattle.ev_syntax.specs.inner.FormulaParser as parser;
 ghost use Rattle.ev_syntax.specs.Parts.{relation_signs};
 ghost use Rattle.ev_parse.specs.inner.Closings.{IsTable};
-ghost use Rattle.ev_parse.specs.inner.Frames.{stage_at, level_at, related_behind, quantifying, goes_on_by, stage_tail, stage_rest, literal_part, chain_behind, implied_behind, StepHolds, step_weight};
+ghost use Rattle.ev_syntax.specs.inner.Machines.{Falls, GoesOn, StartsAbove, StepHolds, weight_at};
+ghost use Rattle.ev_parse.specs.inner.Frames.{stage_at, level_at, related_behind, quantifying, goes_on_by, stage_tail, stage_rest, literal_part, chain_behind, implied_behind, meaning};
 
 use crate::closings::entry;
 use crate::expression_reader::dot_then;
 use crate::marks::{is_relation, operator_level};
 use crate::raw_pieces::raw_piece;
-use crate::states::{Frame, Goal, RawPiece, Stage, State, Step};
+use crate::states::{FormulaStep, Frame, Goal, RawPiece, Stage, State};
 use ev_syntax::TokenKind;
 use ev_syntax::binder_reader::read_binders;
-use ev_syntax::formulas::RawForm;
+use ev_syntax::formulas::FormulaForm;
+use ev_syntax::machines::Step;
 use ev_syntax::mark_names::{
     AND_SIGN, FALSE_WORD, FINITE_WORD, FOR_ALL_SIGN, FOR_SOME_SIGN, IFF_SIGN, IMPLIES_SIGN,
     INVERSE_SIGN, NOT_WORD, OFTYPE_WORD, OPEN_BRACKET, OPEN_PAREN, OR_WORD, TRUE_WORD,
@@ -44,12 +46,12 @@ fn truth(
     stage: Stage,
     at: usize,
     mark: u16,
-) -> Result<Step, NoMemory>
-    requires inside { IsInside reader.now at }
-    ensures holds { (whole : ℕ → Option (Found RawTree)) → (bs : List (Behind RawTree)) → Reach whole (bs ++ stage_tail stage) (Some (word mark, drop (at + 1) reader.now)) → IfOk result (StepHolds limit reader.now whole bs) }
-    ensures falls { IfOk result (λ s. step_weight (length reader.now) s < 20 * (length reader.now - at) + 12) }
+) -> Result<FormulaStep, NoMemory>
+    requires inside { IsIndex reader.now at }
+    ensures holds { (whole : ℕ → Option (Found RawTree)) → (bs : List (Behind RawTree)) → Reach whole (bs ++ stage_tail stage) (Some (word mark, drop (at + 1) reader.now)) → IfOk result (StepHolds (meaning limit reader.now) whole bs) }
+    ensures falls { Falls (meaning limit reader.now) (weight_at reader.now at 12) result }
 {
-    let piece = raw_piece(alloc, limit, RawForm::Word(mark), 1, false)?;
+    let piece = raw_piece(alloc, limit, FormulaForm::Word(mark), 1, false)?;
     Ok(Step::Go(State::Literal(piece, at + 1, stage)))
 }
 
@@ -61,28 +63,28 @@ fn quantifier(
     stage: Stage,
     at: usize,
     mark: u16,
-) -> Result<Step, NoMemory>
-    requires inside { IsInside reader.now at }
-    ensures holds { (whole : ℕ → Option (Found RawTree)) → (bs : List (Behind RawTree)) → FromCall whole (bs ++ stage_tail stage) (quantifying mark (drop (at + 1) reader.now)) → IfOk result (StepHolds limit reader.now whole bs) }
-    ensures falls { IfOk result (λ s. step_weight (length reader.now) s < 20 * (length reader.now - at) + 12) }
+) -> Result<FormulaStep, NoMemory>
+    requires inside { IsIndex reader.now at }
+    ensures holds { StartsAbove (meaning limit reader.now) (stage_tail stage) (quantifying mark (drop (at + 1) reader.now)) result }
+    ensures falls { Falls (meaning limit reader.now) (weight_at reader.now at 12) result }
 {
     match read_binders(reader, alloc, limit, at + 1)? {
         Some((binders, to)) => {
             dot_then(reader, limit, Frame::Quantified(mark, binders, stage), to)
         }
-        None => Ok(Step::Go(State::Fail)),
+        None => Ok(Step::Fail),
     }
 }
 
 /// Reads the parenthesis after `finite`.
-fn finite(reader: &Reader<'_>, limit: u32, stage: Stage, at: usize) -> Result<Step, NoMemory>
-    requires inside { IsInside reader.now at }
-    requires seen { Sees (Some (AMark FINITE_WORD)) reader.now at }
-    ensures holds { (whole : ℕ → Option (Found RawTree)) → (bs : List (Behind RawTree)) → FromCall whole (bs ++ stage_tail stage) (literal_part (drop at reader.now)) → IfOk result (StepHolds limit reader.now whole bs) }
-    ensures falls { IfOk result (λ s. step_weight (length reader.now) s < 20 * (length reader.now - at) + 12) }
+fn finite(reader: &Reader<'_>, limit: u32, stage: Stage, at: usize) -> Result<FormulaStep, NoMemory>
+    requires inside { IsIndex reader.now at }
+    requires token { IsTokenAt (Some (AMark FINITE_WORD)) reader.now at }
+    ensures holds { StartsAbove (meaning limit reader.now) (stage_tail stage) (literal_part (drop at reader.now)) result }
+    ensures falls { Falls (meaning limit reader.now) (weight_at reader.now at 12) result }
 {
     if !reader.is_mark(at + 1, OPEN_PAREN) {
-        return Ok(Step::Go(State::Fail));
+        return Ok(Step::Fail);
     }
     let inner = State::Call(Goal::Level(0), at + 2);
     Ok(Step::Push(Frame::Finite(stage), inner))
@@ -122,13 +124,13 @@ fn open_paren(
     table: &[Option<usize>],
     stage: Stage,
     at: usize,
-) -> Result<Step, NoMemory>
-    requires inside { IsInside reader.now at }
-    requires seen { Sees (Some (AMark OPEN_PAREN)) reader.now at }
+) -> Result<FormulaStep, NoMemory>
+    requires inside { IsIndex reader.now at }
+    requires token { IsTokenAt (Some (AMark OPEN_PAREN)) reader.now at }
     requires table { IsTable reader.now table.now }
     requires full { length table.now ≡ length reader.now + 1 }
-    ensures holds { (whole : ℕ → Option (Found RawTree)) → (bs : List (Behind RawTree)) → FromCall whole (bs ++ stage_tail stage) (literal_part (drop at reader.now)) → IfOk result (StepHolds limit reader.now whole bs) }
-    ensures falls { IfOk result (λ s. step_weight (length reader.now) s < 20 * (length reader.now - at) + 12) }
+    ensures holds { StartsAbove (meaning limit reader.now) (stage_tail stage) (literal_part (drop at reader.now)) result }
+    ensures falls { Falls (meaning limit reader.now) (weight_at reader.now at 12) result }
 {
     match entry(reader, table, at + 1) {
         Some(to) => {
@@ -138,14 +140,14 @@ fn open_paren(
             let inner = State::Call(Goal::Stage(Stage::Pred), at + 1);
             Ok(Step::Push(Frame::Inner(stage), inner))
         }
-        None => Ok(Step::Go(State::Fail)),
+        None => Ok(Step::Fail),
     }
 }
 
 /// Reads a relation, or a name that is a predicate.
-fn relation(reader: &Reader<'_>, limit: u32, stage: Stage, at: usize) -> Step
-    ensures holds { (whole : ℕ → Option (Found RawTree)) → (bs : List (Behind RawTree)) → at ≤ length reader.now → FromCall whole (bs ++ (stage_tail stage ++ related_behind ∷ [])) (level_at 0 (drop at reader.now)) → StepHolds limit reader.now whole bs result }
-    ensures falls { step_weight (length reader.now) result < 20 * (length reader.now - at) + 12 }
+fn relation(reader: &Reader<'_>, limit: u32, stage: Stage, at: usize) -> FormulaStep
+    ensures holds { (whole : ℕ → Option (Found RawTree)) → (bs : List (Behind RawTree)) → at ≤ length reader.now → FromCall whole (bs ++ (stage_tail stage ++ related_behind ∷ [])) (level_at 0 (drop at reader.now)) → StepHolds (meaning limit reader.now) whole bs result }
+    ensures falls { Falls (meaning limit reader.now) (weight_at reader.now at 12) (Ok result) }
 {
     let inner = State::Call(Goal::Level(0), at);
     Step::Push(Frame::Related(stage), inner)
@@ -160,13 +162,13 @@ fn call_literal(
     stage: Stage,
     at: usize,
     mark: u16,
-) -> Result<Step, NoMemory>
-    requires inside { IsInside reader.now at }
-    requires seen { Sees (Some (AMark mark)) reader.now at }
+) -> Result<FormulaStep, NoMemory>
+    requires inside { IsIndex reader.now at }
+    requires token { IsTokenAt (Some (AMark mark)) reader.now at }
     requires table { IsTable reader.now table.now }
     requires full { length table.now ≡ length reader.now + 1 }
-    ensures holds { (whole : ℕ → Option (Found RawTree)) → (bs : List (Behind RawTree)) → FromCall whole (bs ++ stage_tail stage) (literal_part (drop at reader.now)) → IfOk result (StepHolds limit reader.now whole bs) }
-    ensures falls { IfOk result (λ s. step_weight (length reader.now) s < 20 * (length reader.now - at) + 12) }
+    ensures holds { StartsAbove (meaning limit reader.now) (stage_tail stage) (literal_part (drop at reader.now)) result }
+    ensures falls { Falls (meaning limit reader.now) (weight_at reader.now at 12) result }
 {
     if mark == NOT_WORD {
         let inner = State::Call(Goal::Stage(Stage::Lit), at + 1);
@@ -201,11 +203,11 @@ pub(crate) fn call_stage(
     table: &[Option<usize>],
     stage: Stage,
     at: usize,
-) -> Result<Step, NoMemory>
+) -> Result<FormulaStep, NoMemory>
     requires table { IsTable reader.now table.now }
     requires full { length table.now ≡ length reader.now + 1 }
-    ensures holds { (whole : ℕ → Option (Found RawTree)) → (bs : List (Behind RawTree)) → at ≤ length reader.now → FromCall whole bs (stage_at stage (drop at reader.now)) → IfOk result (StepHolds limit reader.now whole bs) }
-    ensures falls { IfOk result (λ s. step_weight (length reader.now) s < 20 * (length reader.now - at) + 12) }
+    ensures holds { (whole : ℕ → Option (Found RawTree)) → (bs : List (Behind RawTree)) → at ≤ length reader.now → FromCall whole bs (stage_at stage (drop at reader.now)) → IfOk result (StepHolds (meaning limit reader.now) whole bs) }
+    ensures falls { Falls (meaning limit reader.now) (weight_at reader.now at 12) result }
 {
     match reader.kind(at) {
         Some(TokenKind::Mark(mark)) => {
@@ -218,10 +220,16 @@ pub(crate) fn call_stage(
 }
 
 /// Goes on behind a literal of a conjunction or disjunction.
-fn behind_literal(reader: &Reader<'_>, limit: u32, piece: RawPiece, at: usize, stage: Stage) -> Step
+fn behind_literal(
+    reader: &Reader<'_>,
+    limit: u32,
+    piece: RawPiece,
+    at: usize,
+    stage: Stage,
+) -> FormulaStep
     requires further { stage ≢ Stage.Lit }
-    ensures holds { (whole : ℕ → Option (Found RawTree)) → (bs : List (Behind RawTree)) → (r : RawTree) → IsRaw limit piece r → Reach whole (bs ++ stage_tail stage) (Some (r, drop at reader.now)) → at ≤ length reader.now → StepHolds limit reader.now whole bs result }
-    ensures falls { step_weight (length reader.now) result < 20 * (length reader.now - at) + 4 }
+    ensures holds { GoesOn (meaning limit reader.now) (stage_tail stage) piece at (Ok result) }
+    ensures falls { Falls (meaning limit reader.now) (weight_at reader.now at 4) (Ok result) }
 {
     if reader.is_mark(at, AND_SIGN) {
         return Step::Go(State::Chain(AND_SIGN, piece, at, stage));
@@ -239,12 +247,12 @@ pub(crate) fn literal(
     piece: RawPiece,
     at: usize,
     stage: Stage,
-) -> Step
-    ensures holds { (whole : ℕ → Option (Found RawTree)) → (bs : List (Behind RawTree)) → (r : RawTree) → IsRaw limit piece r → Reach whole (bs ++ stage_tail stage) (Some (r, drop at reader.now)) → at ≤ length reader.now → StepHolds limit reader.now whole bs result }
-    ensures falls { step_weight (length reader.now) result < 20 * (length reader.now - at) + 4 }
+) -> FormulaStep
+    ensures holds { GoesOn (meaning limit reader.now) (stage_tail stage) piece at (Ok result) }
+    ensures falls { Falls (meaning limit reader.now) (weight_at reader.now at 4) (Ok result) }
 {
     match stage {
-        Stage::Lit => Step::Go(State::Found(piece, at)),
+        Stage::Lit => Step::Found(piece, at),
         Stage::Conj => behind_literal(reader, limit, piece, at, stage),
         Stage::Pred => behind_literal(reader, limit, piece, at, stage),
     }
@@ -258,9 +266,9 @@ pub(crate) fn chain(
     piece: RawPiece,
     at: usize,
     stage: Stage,
-) -> Step
-    ensures holds { (whole : ℕ → Option (Found RawTree)) → (bs : List (Behind RawTree)) → (r : RawTree) → IsRaw limit piece r → Reach whole (bs ++ (stage_rest stage ++ chain_behind mark ∷ [])) (Some (r, drop at reader.now)) → at ≤ length reader.now → StepHolds limit reader.now whole bs result }
-    ensures falls { step_weight (length reader.now) result < 20 * (length reader.now - at) + 3 }
+) -> FormulaStep
+    ensures holds { GoesOn (meaning limit reader.now) (stage_rest stage ++ chain_behind mark ∷ []) piece at (Ok result) }
+    ensures falls { Falls (meaning limit reader.now) (weight_at reader.now at 3) (Ok result) }
 {
     if reader.is_mark(at, mark) {
         let inner = State::Call(Goal::Stage(Stage::Lit), at + 1);
@@ -270,9 +278,9 @@ pub(crate) fn chain(
 }
 
 /// Goes on behind the first part of a predicate.
-fn behind_conjunct(reader: &Reader<'_>, limit: u32, piece: RawPiece, at: usize) -> Step
-    ensures holds { (whole : ℕ → Option (Found RawTree)) → (bs : List (Behind RawTree)) → (r : RawTree) → IsRaw limit piece r → Reach whole (bs ++ implied_behind ∷ []) (Some (r, drop at reader.now)) → at ≤ length reader.now → StepHolds limit reader.now whole bs result }
-    ensures falls { step_weight (length reader.now) result < 20 * (length reader.now - at) + 2 }
+fn behind_conjunct(reader: &Reader<'_>, limit: u32, piece: RawPiece, at: usize) -> FormulaStep
+    ensures holds { GoesOn (meaning limit reader.now) (implied_behind ∷ []) piece at (Ok result) }
+    ensures falls { Falls (meaning limit reader.now) (weight_at reader.now at 2) (Ok result) }
 {
     if reader.is_mark(at, IMPLIES_SIGN) {
         let inner = State::Call(Goal::Stage(Stage::Conj), at + 1);
@@ -282,7 +290,7 @@ fn behind_conjunct(reader: &Reader<'_>, limit: u32, piece: RawPiece, at: usize) 
         let inner = State::Call(Goal::Stage(Stage::Conj), at + 1);
         return Step::Push(Frame::Implication(IFF_SIGN, piece), inner);
     }
-    Step::Go(State::Found(piece, at))
+    Step::Found(piece, at)
 }
 
 /// Goes on behind a conjunction or disjunction: with `=>`, with `<=>`, or not.
@@ -292,13 +300,13 @@ pub(crate) fn conjunct(
     piece: RawPiece,
     at: usize,
     stage: Stage,
-) -> Step
-    ensures holds { (whole : ℕ → Option (Found RawTree)) → (bs : List (Behind RawTree)) → (r : RawTree) → IsRaw limit piece r → Reach whole (bs ++ stage_rest stage) (Some (r, drop at reader.now)) → at ≤ length reader.now → StepHolds limit reader.now whole bs result }
-    ensures falls { step_weight (length reader.now) result < 20 * (length reader.now - at) + 2 }
+) -> FormulaStep
+    ensures holds { GoesOn (meaning limit reader.now) (stage_rest stage) piece at (Ok result) }
+    ensures falls { Falls (meaning limit reader.now) (weight_at reader.now at 2) (Ok result) }
 {
     match stage {
         Stage::Pred => behind_conjunct(reader, limit, piece, at),
-        Stage::Lit => Step::Go(State::Found(piece, at)),
-        Stage::Conj => Step::Go(State::Found(piece, at)),
+        Stage::Lit => Step::Found(piece, at),
+        Stage::Conj => Step::Found(piece, at),
     }
 }

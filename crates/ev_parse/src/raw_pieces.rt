@@ -8,7 +8,7 @@ ghost use Rattle.ev_parse.specs.inner.Forms.{IsRaw, is_call, args_nesting, membe
 
 use crate::states::RawPiece;
 use ev_syntax::binders::{Binder, Binders};
-use ev_syntax::formulas::{Raw, RawForm, Raws};
+use ev_syntax::formulas::{FormulaForm, Raw, Raws};
 use ev_syntax::pattern_states::PatternPiece;
 use ev_syntax::read_pieces::Piece;
 use ev_syntax::written::RawType;
@@ -19,7 +19,7 @@ use std::alloc::Global;
 pub(crate) fn raw_piece(
     alloc: Global,
     limit: u32,
-    form: RawForm,
+    form: FormulaForm,
     depth: u64,
     call: bool,
 ) -> Result<RawPiece, NoMemory>
@@ -37,7 +37,7 @@ pub(crate) fn is_name(piece: &RawPiece) -> bool
     ensures { (limit : ℕ) → (r : RawTree) → IsRaw limit piece.now r → result ≡ is_call r }
 {
     match piece {
-        RawPiece::Whole(raw, _) => matches!(raw.form(), RawForm::Call(_, _)),
+        RawPiece::Whole(raw, _) => matches!(raw.form(), FormulaForm::Call(_, _)),
         RawPiece::Deep(call) => *call,
     }
 }
@@ -56,7 +56,7 @@ pub(crate) fn around_piece(
     if n >= limit as u64 {
         return Ok(RawPiece::Deep(false));
     }
-    raw_piece(alloc, limit, RawForm::Around(mark, a), n + 1, false)
+    raw_piece(alloc, limit, FormulaForm::Around(mark, a), n + 1, false)
 }
 
 pub(crate) fn unary_piece(
@@ -73,7 +73,7 @@ pub(crate) fn unary_piece(
     if n >= limit as u64 {
         return Ok(RawPiece::Deep(false));
     }
-    raw_piece(alloc, limit, RawForm::Unary(mark, a), n + 1, false)
+    raw_piece(alloc, limit, FormulaForm::Unary(mark, a), n + 1, false)
 }
 
 pub(crate) fn inverse_piece(alloc: Global, limit: u32, a: RawPiece) -> Result<RawPiece, NoMemory>
@@ -85,7 +85,7 @@ pub(crate) fn inverse_piece(alloc: Global, limit: u32, a: RawPiece) -> Result<Ra
     if n >= limit as u64 {
         return Ok(RawPiece::Deep(false));
     }
-    raw_piece(alloc, limit, RawForm::Inverse(a), n + 1, false)
+    raw_piece(alloc, limit, FormulaForm::Inverse(a), n + 1, false)
 }
 
 pub(crate) fn binary_piece(
@@ -107,7 +107,13 @@ pub(crate) fn binary_piece(
     if most >= limit as u64 {
         return Ok(RawPiece::Deep(false));
     }
-    raw_piece(alloc, limit, RawForm::Binary(mark, a, b), most + 1, false)
+    raw_piece(
+        alloc,
+        limit,
+        FormulaForm::Binary(mark, a, b),
+        most + 1,
+        false,
+    )
 }
 
 pub(crate) fn apply_piece(
@@ -128,7 +134,7 @@ pub(crate) fn apply_piece(
     if most >= limit as u64 {
         return Ok(RawPiece::Deep(false));
     }
-    raw_piece(alloc, limit, RawForm::Apply(a, b), most + 1, false)
+    raw_piece(alloc, limit, FormulaForm::Apply(a, b), most + 1, false)
 }
 
 pub(crate) fn image_piece(
@@ -149,7 +155,7 @@ pub(crate) fn image_piece(
     if most >= limit as u64 {
         return Ok(RawPiece::Deep(false));
     }
-    raw_piece(alloc, limit, RawForm::Image(a, b), most + 1, false)
+    raw_piece(alloc, limit, FormulaForm::Image(a, b), most + 1, false)
 }
 
 pub(crate) fn typed_piece(
@@ -170,7 +176,7 @@ pub(crate) fn typed_piece(
     if most >= limit as u64 {
         return Ok(RawPiece::Deep(false));
     }
-    raw_piece(alloc, limit, RawForm::OfType(a, ty), most + 1, false)
+    raw_piece(alloc, limit, FormulaForm::OfType(a, ty), most + 1, false)
 }
 
 pub(crate) fn type_set_piece(
@@ -186,7 +192,7 @@ pub(crate) fn type_set_piece(
     if n >= limit as u64 {
         return Ok(RawPiece::Deep(false));
     }
-    raw_piece(alloc, limit, RawForm::TypeSet(ty), n + 1, false)
+    raw_piece(alloc, limit, FormulaForm::TypeSet(ty), n + 1, false)
 }
 
 /// Arguments with one more.
@@ -252,7 +258,7 @@ pub(crate) fn call_piece(
     if n >= limit as u64 {
         return Ok(RawPiece::Deep(true));
     }
-    raw_piece(alloc, limit, RawForm::Call(name, args), n + 1, true)
+    raw_piece(alloc, limit, FormulaForm::Call(name, args), n + 1, true)
 }
 
 pub(crate) fn members_piece(
@@ -265,7 +271,7 @@ pub(crate) fn members_piece(
     let Piece::Whole(members, n) = members else {
         return Ok(RawPiece::Deep(false));
     };
-    raw_piece(alloc, limit, RawForm::Members(members), n, false)
+    raw_piece(alloc, limit, FormulaForm::Members(members), n, false)
 }
 
 pub(crate) fn set_piece(
@@ -286,7 +292,7 @@ pub(crate) fn set_piece(
     if most >= limit as u64 {
         return Ok(RawPiece::Deep(false));
     }
-    raw_piece(alloc, limit, RawForm::SetOf(binder, a), most + 1, false)
+    raw_piece(alloc, limit, FormulaForm::SetOf(binder, a), most + 1, false)
 }
 
 /// The nesting of bound names above a part, if it is within the limit.
@@ -327,7 +333,7 @@ pub(crate) fn quantified_piece(
     raw_piece(
         alloc,
         limit,
-        RawForm::Quantified(mark, binders, a),
+        FormulaForm::Quantified(mark, binders, a),
         depth,
         false,
     )
@@ -363,7 +369,7 @@ pub(crate) fn collected_piece(
     raw_piece(
         alloc,
         limit,
-        RawForm::Collected(mark, binders, a, b),
+        FormulaForm::Collected(mark, binders, a, b),
         depth,
         false,
     )
@@ -395,5 +401,11 @@ pub(crate) fn lambda_piece(
     let Some(depth) = above(limit, n, names, most) else {
         return Ok(RawPiece::Deep(false));
     };
-    raw_piece(alloc, limit, RawForm::Lambda(pattern, a, b), depth, false)
+    raw_piece(
+        alloc,
+        limit,
+        FormulaForm::Lambda(pattern, a, b),
+        depth,
+        false,
+    )
 }

@@ -1,6 +1,7 @@
 //! What the reader of formulas has to do.
 use ev_syntax::binders::{Binder, Binders};
 use ev_syntax::formulas::{Raw, Raws};
+use ev_syntax::machines::Step;
 use ev_syntax::pattern_states::PatternPiece;
 use ev_syntax::read_pieces::Piece;
 use ev_terms::Name;
@@ -74,7 +75,7 @@ pub(crate) enum Frame {
     Implication(u16, RawPiece),
 }
 
-/// What comes next.
+/// What is to be done: to read a formula of a goal at a place, or to go on behind one.
 #[derive(Drop)]
 pub(crate) enum State {
     Call(Goal, usize),
@@ -88,14 +89,6 @@ pub(crate) enum State {
     Chain(u16, RawPiece, usize, Stage),
     /// Behind a conjunction or disjunction.
     Conjunct(RawPiece, usize, Stage),
-    Found(RawPiece, usize),
-    End(RawPiece, usize),
-    Fail,
 }
 
-/// What comes next, perhaps below a new frame.
-#[derive(Drop)]
-pub(crate) enum Step {
-    Go(State),
-    Push(Frame, State),
-}
+pub(crate) type FormulaStep = Step<Frame, State, RawPiece>;

@@ -7,7 +7,7 @@ use Rattle.ev_syntax.specs.Tokens.{Token, name, number, mark}
 use Rattle.ev_syntax.specs.Raw.{RawType, RawTypes, int_type, bool_type, param_type, named_type, pow_type, prod_type, no_types, one_type, Binder, Pattern, bound, pair, Raw, Raws, word, literal, param, type_set, call, around, unary, binary, inverse, apply, image, of_type, quantified, set_of, collected, lambda, members, written, none, one}
 use Rattle.ev_syntax.specs.Parts.{Part, pred, conj, conj_or_tail, ands, ors, lit, lit_or_quant, expr, Operands, operands, operand, around_operand, may_be_word, may_be_quantified, is_among, inside}
 use Rattle.ev_syntax.specs.Grammar.{Front, Is, ◌then◌, Times, InParens, Reads, ReadsMore, ReadsType, ReadsMoreTypes, ReadsWritten, ReadsBinder, ReadsMoreBinders, ReadsBinders, ReadsPattern, WithOperand, WithOperands, Where, EndsCollected, may_collect}
-pub use Rattle.ev_syntax.specs.inner.Looking.{after_close}
+pub use Rattle.ev_syntax.specs.inner.Lookahead.{after_close}
 
 abbrev pub Keeps : Front → Type 0
 Keeps reads = (ts rest : List Token) → reads ts rest → (n : ℕ) → after_close n ts ≡ after_close n rest

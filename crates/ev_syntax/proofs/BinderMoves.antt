@@ -2,7 +2,7 @@
 use Rattle.std.proofs.Common.{◌≡◌, ℕ, zero, suc, ◌+◌, ◌<◌, false, List, [], ◌∷◌, ◌++◌, drop, refl, ap, subst, sym, ◌∙◌, arith, append-nil, append_assoc}
 use Rattle.std.specs.Prelude.{Option, Some, None}
 use Rattle.ev_syntax.specs.Marks.{comma, oftype_word}
-use Rattle.ev_syntax.specs.Tokens.{Token, name, number, mark}
+use Rattle.ev_syntax.specs.Tokens.{Token, name, mark}
 use Rattle.ev_syntax.specs.Raw.{RawType, Binder}
 use Rattle.ev_syntax.specs.inner.Finding.{Found, on_found, Comes}
 use Rattle.ev_syntax.specs.inner.Resuming.{Settles}
@@ -18,22 +18,10 @@ IsBinder ts o = Comes (λ g. parse_binder g ts) o
 pub plain_name : (n : List ℕ) (ts us : List Token) → ts ≡ name n ∷ us → begins oftype_word us ≡ false → IsBinder ts (Some (plain_binder n, us))
 plain_name n ts us e h = subst (λ xs. IsBinder xs (Some (plain_binder n, us))) (sym e) (comes_at_once (λ g. parse_binder g (name n ∷ us)) (Some (plain_binder n, us)) (λ g. rw h))
 
-typed_after : List ℕ → ℕ → RawType → List Token → Option (Found Binder)
-typed_after n g a vs = Some (typed_binder n a, vs)
-
 pub typed_name : (n : List ℕ) (ts us : List Token) (x : Option (Found RawType)) → ts ≡ name n ∷ mark oftype_word ∷ us → Comes (λ g. parse_type g a_type us) x
     → IsBinder ts (on_found x (λ a vs. Some (typed_binder n a, vs)))
 typed_name n ts us x e c = subst (λ xs. IsBinder xs (on_found x (λ a vs. Some (typed_binder n a, vs)))) (sym e)
     (c.0, λ g le. ap (λ o. on_found o (λ a vs. Some (typed_binder n a, vs))) (c.1 g le))
-
-pub no_binder_number : (k : ℕ) (ts us : List Token) → ts ≡ number k ∷ us → IsBinder ts None
-no_binder_number k ts us e = subst (λ xs. IsBinder xs None) (sym e) (comes_at_once (λ g. parse_binder g (number k ∷ us)) None (λ g. refl))
-
-pub no_binder_mark : (m : ℕ) (ts us : List Token) → ts ≡ mark m ∷ us → IsBinder ts None
-no_binder_mark m ts us e = subst (λ xs. IsBinder xs None) (sym e) (comes_at_once (λ g. parse_binder g (mark m ∷ us)) None (λ g. refl))
-
-pub no_binder_end : (ts : List Token) → ts ≡ [] → IsBinder ts None
-no_binder_end ts e = subst (λ xs. IsBinder xs None) (sym e) (comes_at_once (λ g. parse_binder g []) None (λ g. refl))
 
 -- lists
 abbrev cons : Binder → List Binder → List Binder

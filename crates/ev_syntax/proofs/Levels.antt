@@ -10,7 +10,7 @@ use Rattle.ev_syntax.specs.Raw.{Raw, literal, binary}
 use Rattle.ev_syntax.specs.Parts.{Part, expr, Operator, operators, two, operands, is_among, relation_signs, operator_operands_at, is_expression, inside}
 use Rattle.ev_syntax.specs.Grammar.{Front, Is, ◌then◌, Times, InParens, Reads, Where, WithOperands}
 use Rattle.ev_syntax.proofs.Propositional.{Found, found, on_found, closed}
-pub use Rattle.ev_syntax.specs.inner.Looking.{operator_of, is_from, is_at, token_operator, first_operator, mark_number}
+pub use Rattle.ev_syntax.specs.inner.Lookahead.{operator_of, is_from, is_at, token_operator, first_operator, mark_number}
 
 abbrev pub chain_levels : List ℕ
 chain_levels = 1 ∷ 2 ∷ 3 ∷ 5 ∷ 6 ∷ []

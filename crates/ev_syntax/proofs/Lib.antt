@@ -10,8 +10,6 @@ pub mod Continuing
 pub mod Answering
 pub mod Spans
 pub mod NameLemmas
-pub mod Scanning
-pub mod TokenExamples
 pub mod Propositional
 pub mod Eventually
 pub mod Frame
@@ -30,6 +28,7 @@ pub mod WholeLiterals
 pub mod WholePredicates
 pub mod WholeGrammar
 pub mod OneTree
+pub mod BothSorts
 pub mod Sizes
 pub mod RunLaws
 pub mod Wrapping
@@ -41,6 +40,7 @@ pub mod Answers
 pub mod Reading
 pub mod Resumes
 pub mod Nesting
+pub mod Stacks
 pub mod TypeMoves
 pub mod TypeAnswers
 pub mod Progress

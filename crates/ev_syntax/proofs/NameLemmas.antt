@@ -142,20 +142,6 @@ word_name bs bytes end u s p h same e =
     let row : row_of spellings bs ≡ None = sym (e ∙ ap (row_of spellings) same) in
     sym (name_is bs u (whole_word bs end s p h) ∙ ap not (not_reserved bs row))
 
--- `v` and digits
-pub short_variable : (bs : List ℕ) → length bs < 2 → false ≡ is_variable_name bs
-short_variable [] h = refl
-short_variable (c ∷ []) h = by (c == 118)
-  where
-    by : (b : Bool) → false ≡ (b && false)
-    by true = refl
-    by false = refl
-short_variable (c ∷ d ∷ bs) h = absurd (omega arith)
-
-pub other_variable : (bs : List ℕ) → (get_or bs 0 0 ≡ 118 → ⊥) → false ≡ is_variable_name bs
-other_variable [] n = refl
-other_variable (c ∷ bs) n = let f : (c == 118) ≡ false = grind (arith, nat_tests, n) in ap (λ b. b && is_digits bs) (sym f)
-
 pub variable_name : (bs : List ℕ) (r : Bool) → 2 ≤ length bs → get_or bs 0 0 ≡ 118 → r ≡ list_all is_ascii_digit (take (length bs - 1) (drop 1 bs))
     → r ≡ is_variable_name bs
 variable_name [] r h v e = absurd (omega arith)

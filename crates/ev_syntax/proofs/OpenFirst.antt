@@ -9,7 +9,7 @@ use Rattle.ev_syntax.specs.Parts.{Part, expr, operands, operand, around_operand,
 use Rattle.ev_syntax.specs.Grammar.{Front, Is, ◌then◌, Times, InParens, Reads, WithOperand, WithOperands, may_collect}
 use Rattle.ev_syntax.proofs.Levels.{operator_at}
 use Rattle.ev_syntax.proofs.Balanced.{after_close, Keeps, IsOther, keeps, keeps_times, closes_times, other_by_test, other_by_none, IsNotNone}
-pub use Rattle.ev_syntax.specs.inner.Looking.{goes_on}
+pub use Rattle.ev_syntax.specs.inner.Lookahead.{goes_on}
 
 pub record Behind (ts rest : List Token) : Type 0 where
   pub after : List Token

@@ -1,5 +1,5 @@
 -- The steps of the reader of patterns.
-use Rattle.std.proofs.Common.{◌≡◌, ℕ, zero, suc, false, List, [], ◌∷◌, ◌++◌, refl, ap, subst, sym, ◌∙◌, append-nil, append_assoc}
+use Rattle.std.proofs.Common.{◌≡◌, ℕ, zero, suc, false, List, [], ◌∷◌, ◌++◌, refl, ap, subst, sym, append-nil, append_assoc}
 use Rattle.std.specs.Prelude.{Option, Some, None}
 use Rattle.ev_syntax.specs.Marks.{open_paren, close_paren, maps_to_sign}
 use Rattle.ev_syntax.specs.Tokens.{Token, mark}
@@ -9,10 +9,9 @@ use Rattle.ev_syntax.specs.inner.TypeParser.{begins, expect}
 use Rattle.ev_syntax.specs.inner.BinderParser.{parse_binder}
 use Rattle.ev_syntax.specs.inner.PatternParser.{an_atom, a_pattern, more_pairs, parse_pattern}
 use Rattle.ev_syntax.specs.inner.Resuming.{Settles, Behind, Reach, FromCall}
-use Rattle.ev_syntax.specs.inner.PatternFrames.{pattern_at, atom_at, pairs, pattern_tail, closed, pair_behind, IsFrame, IsStack}
+use Rattle.ev_syntax.specs.inner.PatternFrames.{pattern_at, atom_at, pairs, pattern_tail, closed, pair_behind}
 use Rattle.ev_syntax.specs.declared.pattern_states.PatternGoal.{PatternGoal}
 use Rattle.ev_syntax.specs.declared.pattern_states.PatternGoal.TheVariants.{Atom as AnAtom, Whole as APattern}
-use Rattle.ev_syntax.specs.declared.pattern_states.PatternFrame.{PatternFrame}
 use Rattle.ev_syntax.proofs.Resumes.{settles_always, settles_turn, comes_after, comes_bind, settles_bind, below, done, done_at_once, goes_as, call_push, work_push}
 
 module _ (whole : ℕ → Option (Found Pattern)) (bs : List (Behind Pattern)) where
@@ -60,15 +59,3 @@ module _ (whole : ℕ → Option (Found Pattern)) (bs : List (Behind Pattern)) w
 
   pub no_other : (x : Pattern) (ts : List Token) → begins maps_to_sign ts ≡ false → FoundBy (pairs ∷ []) x ts → Reach whole bs (Some (x, ts))
   no_other x ts e h = done_at_once whole bs pairs x ts (Some (x, ts)) h (λ n g. pairs_end n (parse_pattern g an_atom) x ts e)
-
--- stacks
-module _ (limit : ℕ) where
-  pub pushed : (fs : List PatternFrame) (f : PatternFrame) (bs one : List (Behind Pattern)) → IsStack limit fs bs → IsFrame limit f one → IsStack limit (fs ++ f ∷ []) (bs ++ one)
-  pushed [] f bs one k i = (one, [], i, refl, ap (λ xs. xs ++ one) k ∙ sym (append-nil one))
-  pushed (x ∷ fs) f bs one (first, rest, i, k, e) j = (first, rest ++ one, i, pushed fs f rest one k j, ap (λ xs. xs ++ one) e ∙ append_assoc first rest one)
-
-  pub popped : (fs : List PatternFrame) (f : PatternFrame) (bs : List (Behind Pattern)) → IsStack limit (fs ++ f ∷ []) bs
-      → (rest : List (Behind Pattern)) × (one : List (Behind Pattern)) × IsStack limit fs rest × IsFrame limit f one × (bs ≡ rest ++ one)
-  popped [] f bs (one, rest, i, k, e) = ([], one, refl, i, e ∙ ap (λ xs. one ++ xs) k ∙ append-nil one)
-  popped (x ∷ fs) f bs (first, rest, i, k, e) = let (inner, one, s, j, d) = popped fs f rest k in
-      (first ++ inner, one, (first, inner, i, s, refl), j, e ∙ ap (λ xs. first ++ xs) d ∙ sym (append_assoc first inner one))

@@ -8,7 +8,7 @@ use Rattle.ev_syntax.specs.declared.kinds as kinds
 use Rattle.ev_syntax.specs.Views.{token_with, all_seen_in}
 use Rattle.ev_syntax.specs.Tokens.{Token, name, tokens_of}
 use Rattle.ev_syntax.specs.inner.TypeParser.{begins}
-use Rattle.ev_syntax.specs.inner.Seeing.{Sees}
+use Rattle.ev_syntax.specs.inner.TokenAt.{IsTokenAt}
 
 abbrev pub token_in : List ℕ → kinds.Token.Token → Token
 token_in text t = token_with t.kind (slice_range text t.start t.end)
@@ -37,34 +37,34 @@ pub length-tokens : (text : List ℕ) (ts : List kinds.Token.Token) → length (
 length-tokens text [] = refl
 length-tokens text (x ∷ ts) = ap suc (length-tokens text ts)
 
-pub sees_some : (text : List ℕ) (ts : List kinds.Token.Token) (i : ℕ) (t : kinds.Token.Token) → slice_get ts i ≡ Some t → Sees (Some t.kind) (tokens_of (all_seen_in text ts)) i
-sees_some text ts i t e = go t.kind refl
+pub token_at_some : (text : List ℕ) (ts : List kinds.Token.Token) (i : ℕ) (t : kinds.Token.Token) → slice_get ts i ≡ Some t → IsTokenAt (Some t.kind) (tokens_of (all_seen_in text ts)) i
+token_at_some text ts i t e = go t.kind refl
   where
     us : List Token
     us = tokens_of (all_seen_in text ts)
 
-    go : (k : TokenKind) → t.kind ≡ k → Sees (Some k) us i
+    go : (k : TokenKind) → t.kind ≡ k → IsTokenAt (Some k) us i
     go Name d = (slice_range text t.start t.end, tokens_at text ts i t e ∙ ap (λ k. token_with k (slice_range text t.start t.end) ∷ drop (i + 1) us) d)
     go (Number n) d = tokens_at text ts i t e ∙ ap (λ k. token_with k (slice_range text t.start t.end) ∷ drop (i + 1) us) d
     go (Mark m) d = tokens_at text ts i t e ∙ ap (λ k. token_with k (slice_range text t.start t.end) ∷ drop (i + 1) us) d
 
-pub sees_none : (text : List ℕ) (ts : List kinds.Token.Token) (i : ℕ) → slice_get ts i ≡ None → Sees None (tokens_of (all_seen_in text ts)) i
-sees_none text ts i e = tokens_end text ts i e
+pub token_at_none : (text : List ℕ) (ts : List kinds.Token.Token) (i : ℕ) → slice_get ts i ≡ None → IsTokenAt None (tokens_of (all_seen_in text ts)) i
+token_at_none text ts i e = tokens_end text ts i e
 
--- whether a mark is the one seen
-pub begins_mark : (us : List Token) (i m k : ℕ) → Sees (Some (Mark k)) us i → begins m (drop i us) ≡ (k == m)
+-- whether a mark is the one that stands there
+pub begins_mark : (us : List Token) (i m k : ℕ) → IsTokenAt (Some (Mark k)) us i → begins m (drop i us) ≡ (k == m)
 begins_mark us i m k s = ap (begins m) s
 
-pub begins_none : (us : List Token) (i m : ℕ) → Sees None us i → begins m (drop i us) ≡ false
+pub begins_none : (us : List Token) (i m : ℕ) → IsTokenAt None us i → begins m (drop i us) ≡ false
 begins_none us i m s = ap (begins m) s
 
-pub begins_name : (us : List Token) (i m : ℕ) → Sees (Some Name) us i → begins m (drop i us) ≡ false
+pub begins_name : (us : List Token) (i m : ℕ) → IsTokenAt (Some Name) us i → begins m (drop i us) ≡ false
 begins_name us i m s = ap (begins m) s.1
 
-pub begins_number : (us : List Token) (i m n : ℕ) → Sees (Some (Number n)) us i → begins m (drop i us) ≡ false
+pub begins_number : (us : List Token) (i m n : ℕ) → IsTokenAt (Some (Number n)) us i → begins m (drop i us) ≡ false
 begins_number us i m n s = ap (begins m) s
 
-pub ruleset reading = (length-tokens, sees_some, sees_none, begins_mark, begins_none, begins_name, begins_number)
+pub ruleset reading = (length-tokens, token_at_some, token_at_none, begins_mark, begins_none, begins_name, begins_number)
 
 of_name : (k : TokenKind) (b n : List ℕ) (us rest : List Token) → token_with k b ∷ us ≡ name n ∷ rest → b ≡ n
 of_name Name b n us rest e = cc

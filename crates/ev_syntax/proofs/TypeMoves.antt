@@ -4,14 +4,13 @@ use Rattle.std.specs.Prelude.{Option, Some, None, ◌==◌, nat_lt, if◌then◌
 use Rattle.std.proofs.lemmas.Bool.{eqb-true, eq-eqb}
 use Rattle.ev_syntax.specs.Marks.{int_word, bool_set_word, param_sign, pow_word, open_paren, close_paren, comma, product_sign}
 use Rattle.ev_syntax.specs.Tokens.{Token, name, number, mark}
-use Rattle.ev_syntax.specs.inner.Seeing.{small_number}
+use Rattle.ev_syntax.specs.inner.TokenAt.{small_number}
 use Rattle.ev_syntax.specs.Raw.{RawType, RawTypes, param_type, named_type, pow_type, prod_type, no_types, one_type}
 use Rattle.ev_syntax.specs.inner.TypeView.{raw_types}
 use Rattle.ev_syntax.specs.inner.Finding.{Found, on_found, Comes}
 use Rattle.ev_syntax.specs.inner.TypeParser.{begins, expect, an_atom, a_type, more_factors, more_types, parse_type}
 use Rattle.ev_syntax.specs.inner.Resuming.{Settles, Behind, Reach, FromCall}
-use Rattle.ev_syntax.specs.inner.TypeFrames.{type_at, atom_at, factors, type_tail, closed_type, closed_pow, factor_behind, onto, types_behind, IsFrame, IsStack}
-use Rattle.ev_syntax.specs.declared.type_states.TypeFrame.{TypeFrame}
+use Rattle.ev_syntax.specs.inner.TypeFrames.{type_at, atom_at, factors, type_tail, closed_type, closed_pow, factor_behind, onto, types_behind}
 use Rattle.ev_syntax.specs.declared.type_states.TypeGoal.{TypeGoal}
 use Rattle.ev_syntax.specs.declared.type_states.TypeGoal.TheVariants.{Atom as AnAtom, Whole as AType}
 use Rattle.ev_syntax.proofs.Resumes.{settles_always, settles_turn, comes_after, comes_bind, settles_bind, below, done, done_at_once, goes_as, call_push, work_push, at_once}
@@ -166,9 +165,6 @@ not_eq m k h = go (m == k) refl
     go true e = absurd (h (eqb-true m k e))
     go false e = e
 
-abbrev pub ReachBy : (ℕ → Option (Found RawType)) → List (Behind RawType) → RawType → List Token → Type 0
-ReachBy whole bs r ts = Reach whole bs (Some (r, ts))
-
 -- what the frames do
 module _ (whole : ℕ → Option (Found RawType)) (bs : List (Behind RawType)) where
   abbrev pub FoundBy : List (Behind RawType) → RawType → List Token → Type 0
@@ -223,18 +219,3 @@ module _ (whole : ℕ → Option (Found RawType)) (bs : List (Behind RawType)) w
 
   pub no_other : (r : RawType) (ts : List Token) → begins product_sign ts ≡ false → Reaches AType r ts → Reach whole bs (Some (r, ts))
   no_other r ts e h = done_at_once whole bs factors r ts (Some (r, ts)) h (λ n g. factors_end n (parse_type g an_atom) r ts e)
-
-  pub only_atom : (r : RawType) (ts : List Token) → Reaches AnAtom r ts → Reach whole bs (Some (r, ts))
-  only_atom r ts h = subst (λ xs. Reach whole xs (Some (r, ts))) (append-nil bs) h
-
--- stacks
-module _ (limit : ℕ) where
-  pub pushed : (fs : List TypeFrame) (f : TypeFrame) (bs one : List (Behind RawType)) → IsStack limit fs bs → IsFrame limit f one → IsStack limit (fs ++ f ∷ []) (bs ++ one)
-  pushed [] f bs one k i = (one, [], i, refl, ap (λ xs. xs ++ one) k ∙ sym (append-nil one))
-  pushed (x ∷ fs) f bs one (first, rest, i, k, e) j = (first, rest ++ one, i, pushed fs f rest one k j, ap (λ xs. xs ++ one) e ∙ append_assoc first rest one)
-
-  pub popped : (fs : List TypeFrame) (f : TypeFrame) (bs : List (Behind RawType)) → IsStack limit (fs ++ f ∷ []) bs
-      → (rest : List (Behind RawType)) × (one : List (Behind RawType)) × IsStack limit fs rest × IsFrame limit f one × (bs ≡ rest ++ one)
-  popped [] f bs (one, rest, i, k, e) = ([], one, refl, i, e ∙ ap (λ xs. one ++ xs) k ∙ append-nil one)
-  popped (x ∷ fs) f bs (first, rest, i, k, e) = let (inner, one, s, j, d) = popped fs f rest k in
-      (first ++ inner, one, (first, inner, i, s, refl), j, e ∙ ap (λ xs. first ++ xs) d ∙ sym (append_assoc first inner one))

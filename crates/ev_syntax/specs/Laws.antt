@@ -1,13 +1,17 @@
 -- Laws of tokens.
-use Rattle.std.specs.Prelude.{◌≡◌, ℕ, ◌≤◌, ◌<◌, List, [], ◌∷◌, length, slice_get, slice_range, Some}
-use Rattle.std.specs.List.{AllByRecursion}
+use Rattle.std.specs.Prelude.{◌≡◌, ℕ, ◌≤◌, ◌<◌, List, [], ◌∷◌, map, length, slice_get, slice_range, Some}
 use Rattle.std.specs.Str.{chars}
-use Rattle.ev_syntax.specs.Marks.{spellings, named_marks}
+use Rattle.ev_syntax.specs.Marks.{spellings}
+use Rattle.ev_syntax.specs.MarkNames.{named_marks}
 use Rattle.ev_syntax.specs.Tokens.{Spanned, HasTokens, token_of}
 
 -- each mark by name is the row of its spelling in the table
 abbrev pub MarksAreSpellings : Type 0
-MarksAreSpellings = AllByRecursion (λ (m : ℕ × List ℕ). slice_get spellings m.0 ≡ Some m.1) named_marks
+MarksAreSpellings = map (λ m. slice_get spellings m.row) named_marks ≡ map (λ m. Some m.spelling) named_marks
+
+-- the constants of the code are these rows, each under the same name
+abbrev pub ConstantsAreMarks : Type 0
+ConstantsAreMarks = map (λ m. m.constant) named_marks ≡ map (λ m. m.row) named_marks
 
 -- a text has at most one list of tokens
 abbrev pub AtMostOneList : Type 0

@@ -1,5 +1,6 @@
 pub mod Chars
 pub mod Marks
+pub mod MarkNames
 pub mod Tokens
 pub mod Names
 pub mod Views

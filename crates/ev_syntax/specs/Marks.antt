@@ -30,7 +30,7 @@ reserved_words =
 abbrev pub spellings : List (List ℕ)
 spellings = signs ++ reserved_words
 
--- the rows by name; `token_laws` says that each is the row of its spelling
+-- the rows by name; `token_laws` says that each is the row of its spelling, and the constant of that name in the code
 abbrev pub for_all_sign : ℕ
 for_all_sign = 0
 
@@ -339,110 +339,3 @@ given_word = 101
 
 abbrev pub infer_word : ℕ
 infer_word = 102
-
--- each row by name with its spelling
-abbrev pub named_marks : List (ℕ × List ℕ)
-named_marks =
-    (for_all_sign, codes "!") ∷
-    (for_some_sign, codes "#") ∷
-    (and_sign, codes "&") ∷
-    (implies_sign, codes "=>") ∷
-    (iff_sign, codes "<=>") ∷
-    (equal_sign, codes "=") ∷
-    (not_equal_sign, codes "/=") ∷
-    (in_sign, codes ":") ∷
-    (not_in_sign, codes "/:") ∷
-    (subset_sign, codes "<:") ∷
-    (not_subset_sign, codes "/<:") ∷
-    (less_sign, codes "<") ∷
-    (at_most_sign, codes "<=") ∷
-    (greater_sign, codes ">") ∷
-    (at_least_sign, codes ">=") ∷
-    (maps_to_sign, codes "|->") ∷
-    (relation_sign, codes "<->") ∷
-    (partial_function_sign, codes "+->") ∷
-    (total_function_sign, codes "-->") ∷
-    (partial_injection_sign, codes ">+>") ∷
-    (total_injection_sign, codes ">->") ∷
-    (partial_surjection_sign, codes "+->>") ∷
-    (total_surjection_sign, codes "-->>") ∷
-    (bijection_sign, codes ">->>") ∷
-    (cup_sign, codes "\\/") ∷
-    (cap_sign, codes "/\\") ∷
-    (without_sign, codes "\\") ∷
-    (product_sign, codes "**") ∷
-    (override_sign, codes "<+") ∷
-    (domain_restriction_sign, codes "<|") ∷
-    (domain_subtraction_sign, codes "<<|") ∷
-    (range_restriction_sign, codes "|>") ∷
-    (range_subtraction_sign, codes "|>>") ∷
-    (composition_sign, codes ";") ∷
-    (up_to_sign, codes "..") ∷
-    (plus_sign, codes "+") ∷
-    (minus_sign, codes "-") ∷
-    (times_sign, codes "*") ∷
-    (over_sign, codes "/") ∷
-    (power_sign, codes "^") ∷
-    (inverse_sign, codes "~") ∷
-    (open_paren, codes "(") ∷
-    (close_paren, codes ")") ∷
-    (open_bracket, codes "[") ∷
-    (close_bracket, codes "]") ∷
-    (open_brace, codes "{") ∷
-    (close_brace, codes "}") ∷
-    (comma, codes ",") ∷
-    (dot, codes ".") ∷
-    (bar, codes "|") ∷
-    (lambda_sign, codes "%") ∷
-    (param_sign, codes "?") ∷
-    (at_sign, codes "@") ∷
-    (true_word, codes "true") ∷
-    (false_word, codes "false") ∷
-    (not_word, codes "not") ∷
-    (or_word, codes "or") ∷
-    (true_value_word, codes "TRUE") ∷
-    (false_value_word, codes "FALSE") ∷
-    (int_word, codes "INT") ∷
-    (nat_word, codes "NAT") ∷
-    (nat1_word, codes "NAT1") ∷
-    (bool_set_word, codes "BOOL") ∷
-    (pow_word, codes "POW") ∷
-    (type_word, codes "TYPE") ∷
-    (pred_word, codes "PRED") ∷
-    (bool_word, codes "bool") ∷
-    (oftype_word, codes "oftype") ∷
-    (mod_word, codes "mod") ∷
-    (finite_word, codes "finite") ∷
-    (card_word, codes "card") ∷
-    (min_word, codes "min") ∷
-    (max_word, codes "max") ∷
-    (union_word, codes "union") ∷
-    (inter_word, codes "inter") ∷
-    (dom_word, codes "dom") ∷
-    (ran_word, codes "ran") ∷
-    (id_word, codes "id") ∷
-    (prj1_word, codes "prj1") ∷
-    (prj2_word, codes "prj2") ∷
-    (union_over_word, codes "UNION") ∷
-    (inter_over_word, codes "INTER") ∷
-    (at_word, codes "at") ∷
-    (of_word, codes "of") ∷
-    (import_word, codes "IMPORT") ∷
-    (param_word, codes "PARAM") ∷
-    (datatype_word, codes "DATATYPE") ∷
-    (operator_word, codes "OPERATOR") ∷
-    (constant_word, codes "CONSTANT") ∷
-    (axiom_word, codes "AXIOM") ∷
-    (theorem_word, codes "THEOREM") ∷
-    (rewrite_word, codes "REWRITE") ∷
-    (inference_word, codes "INFERENCE") ∷
-    (where_word, codes "WHERE") ∷
-    (is_word, codes "IS") ∷
-    (by_word, codes "BY") ∷
-    (case_word, codes "CASE") ∷
-    (for_word, codes "FOR") ∷
-    (when_word, codes "WHEN") ∷
-    (then_word, codes "THEN") ∷
-    (complete_word, codes "COMPLETE") ∷
-    (given_word, codes "GIVEN") ∷
-    (infer_word, codes "INFER") ∷ []

@@ -14,13 +14,14 @@ pub mod RawCode
 pub mod RawFalls
 pub mod Finding
 pub mod TypeParser
-pub mod Seeing
+pub mod TokenAt
 pub mod Resuming
+pub mod Machines
 pub mod Pieces
 pub mod TypeFrames
 pub mod BinderParser
 pub mod PatternParser
-pub mod Looking
+pub mod Lookahead
 pub mod FormulaParser
 pub mod BinderAnswers
 pub mod PatternFrames

@@ -3,7 +3,7 @@ ghost use Rattle.std.specs.Prelude.{◌≡◌, ◌≤◌, [], ◌∷◌, ◌++�
 ghost use Rattle.ev_syntax.specs.declared.kinds.TokenKind.TheVariants.{Name as AName};
 ghost use Rattle.ev_syntax.specs.Raw.{RawType as WrittenType, Binder as Bound, type_nesting};
 ghost use Rattle.ev_syntax.specs.inner.BinderParser.{typed_binder};
-ghost use Rattle.ev_syntax.specs.inner.Seeing.{Sees, IsInside};
+ghost use Rattle.ev_syntax.specs.inner.TokenAt.{IsTokenAt, IsIndex};
 ghost use Rattle.ev_syntax.specs.inner.Pieces.{IsPiece};
 ghost use Rattle.ev_syntax.specs.inner.BinderAnswers.{BinderAnswer, BindersAnswer, FurtherAnswer, binder_nesting, own_nesting};
 
@@ -36,8 +36,8 @@ fn named(
     limit: u32,
     at: usize,
 ) -> Result<Option<(Piece<Binder>, usize)>, NoMemory>
-    requires inside { IsInside reader.now at }
-    requires seen { Sees (Some AName) reader.now at }
+    requires inside { IsIndex reader.now at }
+    requires token { IsTokenAt (Some AName) reader.now at }
     ensures { IfOk result (BinderAnswer limit reader.now at) }
 {
     let name = reader.name(alloc, at)?;

@@ -12,14 +12,14 @@ use std::marker::Model;
 #[cycle(raw)]
 #[derive(Drop)]
 pub struct Raw {
-    form: Box<RawForm>,
+    form: Box<FormulaForm>,
 }
 
 /// The form of a formula. Signs and reserved words are rows of the table of spellings. A name, with arguments or with none, is one
 /// form, whether it stands for a predicate or for an expression.
 #[cycle(raw)]
 #[derive(Drop)]
-pub enum RawForm {
+pub enum FormulaForm {
     /// A reserved word alone: `true false TRUE FALSE INT BOOL NAT NAT1 id prj1 prj2`.
     Word(u16),
     Literal(u128),
@@ -78,7 +78,7 @@ impl Model for Raw {
 }
 
 impl Raw {
-    pub fn new(alloc: Global, form: RawForm) -> Result<Raw, NoMemory>
+    pub fn new(alloc: Global, form: FormulaForm) -> Result<Raw, NoMemory>
         ensures { IfOk result (λ e. e ≡ raw_of form) }
     {
         match Box::new(alloc, form) {
@@ -87,7 +87,7 @@ impl Raw {
         }
     }
 
-    pub fn form(&self) -> &RawForm
+    pub fn form(&self) -> &FormulaForm
         ensures { raw_of result.now ≡ self.now }
     {
         &*self.form

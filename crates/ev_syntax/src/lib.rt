@@ -10,6 +10,7 @@ pub mod grammar;
 pub mod kinds;
 pub mod laws;
 pub mod lexer;
+pub mod machines;
 pub mod mark_names;
 pub mod marks;
 pub mod names;
@@ -32,7 +33,7 @@ pub mod written;
 
 pub use binders::{Binder, Binders, Pattern, PatternForm};
 pub use faults::LexFault;
-pub use formulas::{Raw, RawForm, Raws};
+pub use formulas::{FormulaForm, Raw, Raws};
 pub use grammar::grammar_laws;
 pub use kinds::{Token, TokenKind, Tokens};
 pub use laws::token_laws;

@@ -1,17 +1,17 @@
 //! The reader of patterns: a machine with a stack of frames, so that nothing in the input makes it recurse.
-ghost use Rattle.std.specs.Prelude.{◌≡◌, ◌<◌, ◌≤◌, ◌+◌, ◌*◌, ◌-◌, [], ◌∷◌, ◌++◌, ℕ, List, Option, Some, length, drop, IfOk};
+ghost use Rattle.std.specs.Prelude.{◌≡◌, ◌≤◌, [], ◌∷◌, Ok, length, drop, IfOk};
 ghost use Rattle.ev_syntax.specs.Raw.{Binder as Bound, Pattern as BoundPattern, bound, pair};
-ghost use Rattle.ev_syntax.specs.inner.Finding.{Found};
-ghost use Rattle.ev_syntax.specs.inner.Resuming.{Behind, Reach, FromCall};
 ghost use Rattle.ev_syntax.specs.inner.Pieces.{IsPiece};
 ghost use Rattle.ev_syntax.specs.inner.BinderAnswers.{binder_nesting, IsPattern, PatternAnswer};
-ghost use Rattle.ev_syntax.specs.inner.PatternFrames.{pattern_at, pattern_tail, pairs, IsFrame, IsStack, PieceReaches, StateHolds, Holds, state_weight};
+ghost use Rattle.ev_syntax.specs.inner.Machines.{Falls, GoesOn, Resumes, Starts, weight_at};
+ghost use Rattle.ev_syntax.specs.inner.PatternFrames.{pattern_at, pairs, meaning};
 
 use crate::binder_reader::read_binder;
 use crate::binders::{Binder, Pattern, PatternForm};
+use crate::machines::{Machine, Step, run};
 use crate::mark_names::{CLOSE_PAREN, MAPS_TO_SIGN, OPEN_PAREN};
-use crate::pattern_states::{PatternFrame, PatternGoal, PatternPiece, PatternState};
-use crate::read_pieces::{Piece, push};
+use crate::pattern_states::{PatternFrame, PatternGoal, PatternPiece, PatternState, PatternStep};
+use crate::read_pieces::Piece;
 use crate::reader::Reader;
 use ev_terms::NoMemory;
 use std::alloc::Global;
@@ -66,23 +66,22 @@ fn call(
     reader: &Reader<'_>,
     alloc: Global,
     limit: u32,
-    stack: &mut Vec<PatternFrame>,
     goal: PatternGoal,
     at: usize,
-) -> Result<PatternState, NoMemory>
-    ensures holds { (whole : ℕ → Option (Found BoundPattern)) → (bs : List (Behind BoundPattern)) → IsStack limit stack.old.items bs → FromCall whole bs (pattern_at goal (drop at reader.now)) → IfOk result (λ s. Holds limit reader.now whole stack.new.items s) }
-    ensures falls { IfOk result (λ s. state_weight (length reader.now) s + 3 * length stack.new.items < 10 * (length reader.now - at) + 5 + 3 * length stack.old.items) }
+) -> Result<PatternStep, NoMemory>
+    ensures holds { Starts (meaning limit reader.now) (pattern_at goal (drop at reader.now)) result }
+    ensures falls { Falls (meaning limit reader.now) (weight_at reader.now at 5) result }
 {
     if reader.is_mark(at, OPEN_PAREN) {
-        push(stack, PatternFrame::Paren(goal))?;
-        return Ok(PatternState::Call(PatternGoal::Whole, at + 1));
+        let inner = PatternState::Call(PatternGoal::Whole, at + 1);
+        return Ok(Step::Push(PatternFrame::Paren(goal), inner));
     }
     match read_binder(reader, alloc, limit, at)? {
         Some((binder, to)) => {
             let piece = bound_piece(alloc, limit, binder)?;
-            Ok(PatternState::Atom(goal, piece, to))
+            Ok(Step::Go(PatternState::Atom(goal, piece, to)))
         }
-        None => Ok(PatternState::Fail),
+        None => Ok(Step::Fail),
     }
 }
 
@@ -94,83 +93,76 @@ fn resume(
     frame: PatternFrame,
     piece: PatternPiece,
     at: usize,
-) -> Result<PatternState, NoMemory>
-    ensures holds { (whole : ℕ → Option (Found BoundPattern)) → (bs : List (Behind BoundPattern)) → (one : List (Behind BoundPattern)) → (x : BoundPattern) → IsFrame limit frame one → IsPattern limit piece x → Reach whole (bs ++ one) (Some (x, drop at reader.now)) → at ≤ length reader.now → IfOk result (StateHolds limit reader.now whole bs) }
-    ensures falls { IfOk result (λ s. state_weight (length reader.now) s < 10 * (length reader.now - at) + 4) }
+) -> Result<PatternStep, NoMemory>
+    ensures holds { Resumes (meaning limit reader.now) frame piece at result }
+    ensures falls { Falls (meaning limit reader.now) (weight_at reader.now at 6) result }
 {
     match frame {
         PatternFrame::Paren(goal) => {
             if reader.is_mark(at, CLOSE_PAREN) {
-                return Ok(PatternState::Atom(goal, piece, at + 1));
+                return Ok(Step::Go(PatternState::Atom(goal, piece, at + 1)));
             }
-            Ok(PatternState::Fail)
+            Ok(Step::Fail)
         }
         PatternFrame::Pair(left) => {
             let piece = pair_piece(alloc, limit, left, piece)?;
-            Ok(PatternState::Atom(PatternGoal::Whole, piece, at))
+            Ok(Step::Go(PatternState::Atom(PatternGoal::Whole, piece, at)))
         }
     }
 }
 
-/// Does the last frame with the pattern that was found, or ends.
-fn pop(
-    reader: &Reader<'_>,
-    alloc: Global,
-    limit: u32,
-    stack: &mut Vec<PatternFrame>,
-    piece: PatternPiece,
-    at: usize,
-) -> Result<PatternState, NoMemory>
-    ensures holds { (whole : ℕ → Option (Found BoundPattern)) → (bs : List (Behind BoundPattern)) → IsStack limit stack.old.items bs → PieceReaches limit reader.now whole bs piece at → IfOk result (λ s. Holds limit reader.now whole stack.new.items s) }
-    ensures falls { IfOk result (λ s. state_weight (length reader.now) s + 3 * length stack.new.items < 10 * (length reader.now - at) + 1 + 3 * length stack.old.items) }
-{
-    let Some(frame) = stack.pop() else {
-        return Ok(PatternState::Found(piece, at));
-    };
-    resume(reader, alloc, limit, frame, piece, at)
-}
-
-/// Goes on behind an atom of a pattern: with a further one, or with the last frame.
-fn another(
-    reader: &Reader<'_>,
-    alloc: Global,
-    limit: u32,
-    stack: &mut Vec<PatternFrame>,
-    piece: PatternPiece,
-    at: usize,
-) -> Result<PatternState, NoMemory>
-    ensures holds { (whole : ℕ → Option (Found BoundPattern)) → (bs : List (Behind BoundPattern)) → IsStack limit stack.old.items bs → PieceReaches limit reader.now whole (bs ++ pairs ∷ []) piece at → IfOk result (λ s. Holds limit reader.now whole stack.new.items s) }
-    ensures falls { IfOk result (λ s. state_weight (length reader.now) s + 3 * length stack.new.items < 10 * (length reader.now - at) + 2 + 3 * length stack.old.items) }
+/// Goes on behind an atom of a pattern: with a further one, or with what waits for the pattern.
+fn another(reader: &Reader<'_>, limit: u32, piece: PatternPiece, at: usize) -> PatternStep
+    ensures holds { GoesOn (meaning limit reader.now) (pairs ∷ []) piece at (Ok result) }
+    ensures falls { Falls (meaning limit reader.now) (weight_at reader.now at 2) (Ok result) }
 {
     if reader.is_mark(at, MAPS_TO_SIGN) {
-        push(stack, PatternFrame::Pair(piece))?;
-        return Ok(PatternState::Call(PatternGoal::Atom, at + 1));
+        let next = PatternState::Call(PatternGoal::Atom, at + 1);
+        return Step::Push(PatternFrame::Pair(piece), next);
     }
-    pop(reader, alloc, limit, stack, piece, at)
+    Step::Found(piece, at)
 }
 
-/// One step of the machine.
-fn step(
-    reader: &Reader<'_>,
+/// The machine that reads patterns.
+#[derive(Drop)]
+struct PatternMachine<'a> {
+    reader: &'a Reader<'a>,
     alloc: Global,
     limit: u32,
-    stack: &mut Vec<PatternFrame>,
-    state: PatternState,
-) -> Result<PatternState, NoMemory>
-    requires going { 0 < state_weight (length reader.now) state }
-    ensures holds { (whole : ℕ → Option (Found BoundPattern)) → Holds limit reader.now whole stack.old.items state → IfOk result (λ s. Holds limit reader.now whole stack.new.items s) }
-    ensures falls { IfOk result (λ s. state_weight (length reader.now) s + 3 * length stack.new.items < state_weight (length reader.now) state + 3 * length stack.old.items) }
-{
-    match state {
-        PatternState::Call(goal, at) => call(reader, alloc, limit, stack, goal, at),
-        PatternState::Atom(PatternGoal::Atom, piece, at) => {
-            pop(reader, alloc, limit, stack, piece, at)
+}
+
+impl<'a> Machine for PatternMachine<'a> {
+    type Frame = PatternFrame;
+
+    type State = PatternState;
+
+    type Piece = PatternPiece;
+
+    ghost use Rattle.ev_syntax.specs.Raw.{Pattern as BoundPattern};
+    ghost use Rattle.ev_syntax.specs.inner.Machines.{Falls, GoesOn, Resumes, Starts, weight_at};
+    ghost use Rattle.ev_syntax.specs.inner.PatternFrames.{pattern_at, pairs, meaning};
+
+    ghost Tree = { BoundPattern };
+
+    ghost meaning = { λ m. meaning m.limit m.reader.now };
+
+    fn step(&self, state: PatternState) -> Result<PatternStep, NoMemory> {
+        match state {
+            PatternState::Call(goal, at) => call(self.reader, self.alloc, self.limit, goal, at),
+            PatternState::Atom(PatternGoal::Atom, piece, at) => Ok(Step::Found(piece, at)),
+            PatternState::Atom(PatternGoal::Whole, piece, at) => {
+                Ok(another(self.reader, self.limit, piece, at))
+            }
         }
-        PatternState::Atom(PatternGoal::Whole, piece, at) => {
-            another(reader, alloc, limit, stack, piece, at)
-        }
-        PatternState::Found(piece, at) => Ok(PatternState::Found(piece, at)),
-        PatternState::Fail => Ok(PatternState::Fail),
+    }
+
+    fn resume(
+        &self,
+        frame: PatternFrame,
+        piece: PatternPiece,
+        at: usize,
+    ) -> Result<PatternStep, NoMemory> {
+        resume(self.reader, self.alloc, self.limit, frame, piece, at)
     }
 }
 
@@ -184,13 +176,11 @@ pub fn read_pattern(
     requires { at ≤ length reader.now }
     ensures { IfOk result (PatternAnswer limit reader.now at) }
 {
-    let mut stack = Vec::new(alloc);
-    let mut state = PatternState::Call(PatternGoal::Whole, at);
-    loop {
-        match state {
-            PatternState::Found(piece, at) => return Ok(Some((piece, at))),
-            PatternState::Fail => return Ok(None),
-            going => state = step(reader, alloc, limit, &mut stack, going)?,
-        }
-    }
+    let machine = PatternMachine {
+        reader,
+        alloc,
+        limit,
+    };
+    let start = PatternState::Call(PatternGoal::Whole, at);
+    run(&machine, alloc, start)
 }

@@ -1,5 +1,6 @@
 //! What the reader of patterns has to do.
 use crate::binders::Pattern;
+use crate::machines::Step;
 
 /// A pattern, its nesting and the number of its names, or one that nests too deeply and is not built.
 #[derive(Drop)]
@@ -22,11 +23,11 @@ pub(crate) enum PatternFrame {
     Pair(PatternPiece),
 }
 
-/// To read a pattern at a place, to go on behind an atom, or the end: with a pattern, or with none.
+/// To read a pattern at a place, or to go on behind an atom.
 #[derive(Drop)]
 pub(crate) enum PatternState {
     Call(PatternGoal, usize),
     Atom(PatternGoal, PatternPiece, usize),
-    Found(PatternPiece, usize),
-    Fail,
 }
+
+pub(crate) type PatternStep = Step<PatternFrame, PatternState, PatternPiece>;

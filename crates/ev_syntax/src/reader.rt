@@ -4,7 +4,7 @@ ghost use Rattle.std.specs.List.{All};
 ghost use Rattle.ev_syntax.specs.Views.{LiesIn, all_seen_in};
 ghost use Rattle.ev_syntax.specs.Tokens.{name, tokens_of};
 ghost use Rattle.ev_syntax.specs.inner.TypeParser.{begins};
-ghost use Rattle.ev_syntax.specs.inner.Seeing.{Sees, IsInside, small_number};
+ghost use Rattle.ev_syntax.specs.inner.TokenAt.{IsTokenAt, IsIndex, small_number};
 
 use crate::{Token, TokenKind};
 use ev_terms::{Name, NoMemory};
@@ -50,8 +50,8 @@ impl<'a> Reader<'a> {
     /// What stands at a place, if the tokens do not end there.
     #[tactic(auto, using(crate::proofs::Reading::reading))]
     pub fn kind(&self, at: usize) -> Option<TokenKind>
-        ensures sees { Sees result self.now at }
-        ensures inside { IfSome result (λ _. IsInside self.now at) }
+        ensures token { IsTokenAt result self.now at }
+        ensures inside { IfSome result (λ _. IsIndex self.now at) }
     {
         match self.tokens.get(at) {
             Some(token) => Some(token.kind),
@@ -63,7 +63,7 @@ impl<'a> Reader<'a> {
     #[tactic(auto, using(crate::proofs::Reading::reading))]
     pub fn is_mark(&self, at: usize, mark: u16) -> bool
         ensures is { result ≡ begins mark (drop at self.now) }
-        ensures inside { IsTrue result → IsInside self.now at }
+        ensures inside { IsTrue result → IsIndex self.now at }
     {
         match self.kind(at) {
             Some(TokenKind::Mark(row)) => row == mark,
@@ -75,7 +75,7 @@ impl<'a> Reader<'a> {
     #[tactic(auto, using(crate::proofs::Reading::reading))]
     pub fn small_number(&self, at: usize) -> Option<u32>
         ensures is { result ≡ small_number (drop at self.now) }
-        ensures inside { IfSome result (λ _. IsInside self.now at) }
+        ensures inside { IfSome result (λ _. IsIndex self.now at) }
     {
         match self.kind(at) {
             Some(TokenKind::Number(number)) if number <= u32::MAX as u128 => Some(number as u32),

@@ -1,22 +1,23 @@
 //! The reader of types: a machine with a stack of frames, so that nothing in the input makes it recurse.
-ghost use Rattle.std.specs.Prelude.{◌≡◌, ◌<◌, ◌≤◌, ◌+◌, ◌*◌, ◌-◌, [], ◌∷◌, ◌++◌, ℕ, List, Option, Some, None, length, drop, IfOk, OnOk};
+ghost use Rattle.std.specs.Prelude.{◌≡◌, ◌<◌, ◌≤◌, ◌+◌, ◌*◌, ◌-◌, [], ◌∷◌, ◌++◌, ℕ, List, Option, Some, None, Ok, length, drop, IfOk};
 ghost use Rattle.ev_syntax.specs.declared.kinds.TokenKind.TheVariants.{Mark as AMark, Name as AName};
 ghost use Rattle.ev_syntax.specs.Raw.{RawType, type_nesting};
 ghost use Rattle.ev_syntax.specs.inner.TypeView.{raw_type_of};
 ghost use Rattle.ev_syntax.specs.inner.Finding.{Found};
-ghost use Rattle.ev_syntax.specs.inner.Resuming.{Behind, Reach, FromCall};
-ghost use Rattle.ev_syntax.specs.inner.Seeing.{Sees, IsInside};
+ghost use Rattle.ev_syntax.specs.inner.Resuming.{Behind, Reach};
+ghost use Rattle.ev_syntax.specs.inner.TokenAt.{IsTokenAt, IsIndex};
 ghost use Rattle.ev_syntax.specs.Marks.{close_paren};
-ghost use Rattle.ev_syntax.specs.Tokens.{Token as SpecToken};
 ghost use Rattle.ev_syntax.specs.inner.TypeParser.{expect};
 ghost use Rattle.ev_syntax.specs.inner.Pieces.{IsPiece};
-ghost use Rattle.ev_syntax.specs.inner.TypeFrames.{type_at, factors, type_tail, types_behind, list_nesting, IsFrame, IsStack, PieceReaches, StepHolds, Holds, TypeAnswer, state_weight, step_weight};
+ghost use Rattle.ev_syntax.specs.inner.Machines.{StepHolds, Falls, GoesOn, Resumes, Starts, weight_at};
+ghost use Rattle.ev_syntax.specs.inner.TypeFrames.{type_at, factors, type_tail, types_behind, list_nesting, meaning, TypeAnswer};
 
 use crate::TokenKind;
+use crate::machines::{Machine, Step, run};
 use crate::mark_names::{
     BOOL_SET_WORD, CLOSE_PAREN, COMMA, INT_WORD, OPEN_PAREN, PARAM_SIGN, POW_WORD, PRODUCT_SIGN,
 };
-use crate::read_pieces::{Piece, push};
+use crate::read_pieces::Piece;
 use crate::reader::Reader;
 use crate::type_pieces::{named_piece, pow_piece, prod_piece, type_piece, types_with};
 use crate::type_states::{TypeFrame, TypeGoal, TypeState, TypeStep};
@@ -34,11 +35,11 @@ fn leaf(
     at: usize,
 ) -> Result<TypeStep, NoMemory>
     requires flat { type_nesting (raw_type_of form) ≡ 1 }
-    ensures holds { (whole : ℕ → Option (Found RawType)) → (bs : List (Behind RawType)) → Reach whole (bs ++ type_tail goal) (Some (raw_type_of form, drop at reader.now)) → at ≤ length reader.now → IfOk result (StepHolds limit reader.now whole bs) }
-    ensures falls { IfOk result (λ s. step_weight (length reader.now) s ≤ 10 * (length reader.now - at) + 2) }
+    ensures holds { (whole : ℕ → Option (Found RawType)) → (bs : List (Behind RawType)) → Reach whole (bs ++ type_tail goal) (Some (raw_type_of form, drop at reader.now)) → at ≤ length reader.now → IfOk result (StepHolds (meaning limit reader.now) whole bs) }
+    ensures falls { Falls (meaning limit reader.now) (weight_at reader.now at 4) result }
 {
     let piece = type_piece(alloc, limit, form, 1)?;
-    Ok(TypeStep::Go(TypeState::Atom(goal, piece, at)))
+    Ok(Step::Go(TypeState::Atom(goal, piece, at)))
 }
 
 /// Reads a name, with types or with none.
@@ -49,16 +50,16 @@ fn call_name(
     goal: TypeGoal,
     at: usize,
 ) -> Result<TypeStep, NoMemory>
-    requires inside { IsInside reader.now at }
-    requires seen { Sees (Some AName) reader.now at }
-    ensures holds { (whole : ℕ → Option (Found RawType)) → (bs : List (Behind RawType)) → FromCall whole bs (type_at goal (drop at reader.now)) → IfOk result (StepHolds limit reader.now whole bs) }
-    ensures falls { IfOk result (λ s. step_weight (length reader.now) s < 10 * (length reader.now - at) + 5) }
+    requires inside { IsIndex reader.now at }
+    requires token { IsTokenAt (Some AName) reader.now at }
+    ensures holds { Starts (meaning limit reader.now) (type_at goal (drop at reader.now)) result }
+    ensures falls { Falls (meaning limit reader.now) (weight_at reader.now at 5) result }
 {
     let name = reader.name(alloc, at)?;
     if reader.is_mark(at + 1, OPEN_PAREN) {
         let types = Piece::Whole(ListOf::new(alloc), 0);
         let frame = TypeFrame::Types(name, types, goal);
-        return Ok(TypeStep::Push(frame, TypeState::Call(TypeGoal::Whole, at + 2)));
+        return Ok(Step::Push(frame, TypeState::Call(TypeGoal::Whole, at + 2)));
     }
     leaf(
         reader,
@@ -78,10 +79,10 @@ fn call_param(
     goal: TypeGoal,
     at: usize,
 ) -> Result<TypeStep, NoMemory>
-    requires inside { IsInside reader.now at }
-    requires seen { Sees (Some (AMark PARAM_SIGN)) reader.now at }
-    ensures holds { (whole : ℕ → Option (Found RawType)) → (bs : List (Behind RawType)) → FromCall whole bs (type_at goal (drop at reader.now)) → IfOk result (StepHolds limit reader.now whole bs) }
-    ensures falls { IfOk result (λ s. step_weight (length reader.now) s < 10 * (length reader.now - at) + 5) }
+    requires inside { IsIndex reader.now at }
+    requires token { IsTokenAt (Some (AMark PARAM_SIGN)) reader.now at }
+    ensures holds { Starts (meaning limit reader.now) (type_at goal (drop at reader.now)) result }
+    ensures falls { Falls (meaning limit reader.now) (weight_at reader.now at 5) result }
 {
     match reader.small_number(at + 1) {
         Some(number) => leaf(
@@ -92,7 +93,7 @@ fn call_param(
             goal,
             at + 2,
         ),
-        None => Ok(TypeStep::Go(TypeState::Fail)),
+        None => Ok(Step::Fail),
     }
 }
 
@@ -103,16 +104,16 @@ fn call_pow(
     goal: TypeGoal,
     at: usize,
 ) -> Result<TypeStep, NoMemory>
-    requires inside { IsInside reader.now at }
-    requires seen { Sees (Some (AMark POW_WORD)) reader.now at }
-    ensures holds { (whole : ℕ → Option (Found RawType)) → (bs : List (Behind RawType)) → FromCall whole bs (type_at goal (drop at reader.now)) → IfOk result (StepHolds limit reader.now whole bs) }
-    ensures falls { IfOk result (λ s. step_weight (length reader.now) s < 10 * (length reader.now - at) + 5) }
+    requires inside { IsIndex reader.now at }
+    requires token { IsTokenAt (Some (AMark POW_WORD)) reader.now at }
+    ensures holds { Starts (meaning limit reader.now) (type_at goal (drop at reader.now)) result }
+    ensures falls { Falls (meaning limit reader.now) (weight_at reader.now at 5) result }
 {
     if !reader.is_mark(at + 1, OPEN_PAREN) {
-        return Ok(TypeStep::Go(TypeState::Fail));
+        return Ok(Step::Fail);
     }
     let inner = TypeState::Call(TypeGoal::Whole, at + 2);
-    Ok(TypeStep::Push(TypeFrame::Pow(goal), inner))
+    Ok(Step::Push(TypeFrame::Pow(goal), inner))
 }
 
 /// Reads what begins with a mark.
@@ -124,10 +125,10 @@ fn call_mark(
     at: usize,
     mark: u16,
 ) -> Result<TypeStep, NoMemory>
-    requires inside { IsInside reader.now at }
-    requires seen { Sees (Some (AMark mark)) reader.now at }
-    ensures holds { (whole : ℕ → Option (Found RawType)) → (bs : List (Behind RawType)) → FromCall whole bs (type_at goal (drop at reader.now)) → IfOk result (StepHolds limit reader.now whole bs) }
-    ensures falls { IfOk result (λ s. step_weight (length reader.now) s < 10 * (length reader.now - at) + 5) }
+    requires inside { IsIndex reader.now at }
+    requires token { IsTokenAt (Some (AMark mark)) reader.now at }
+    ensures holds { Starts (meaning limit reader.now) (type_at goal (drop at reader.now)) result }
+    ensures falls { Falls (meaning limit reader.now) (weight_at reader.now at 5) result }
 {
     if mark == INT_WORD {
         return leaf(reader, alloc, limit, RawTypeForm::Int, goal, at + 1);
@@ -140,12 +141,12 @@ fn call_mark(
     }
     if mark == OPEN_PAREN {
         let inner = TypeState::Call(TypeGoal::Whole, at + 1);
-        return Ok(TypeStep::Push(TypeFrame::Paren(goal), inner));
+        return Ok(Step::Push(TypeFrame::Paren(goal), inner));
     }
     if mark == POW_WORD {
         return call_pow(reader, limit, goal, at);
     }
-    Ok(TypeStep::Go(TypeState::Fail))
+    Ok(Step::Fail)
 }
 
 /// Reads a type at a place.
@@ -156,14 +157,14 @@ fn call(
     goal: TypeGoal,
     at: usize,
 ) -> Result<TypeStep, NoMemory>
-    ensures holds { (whole : ℕ → Option (Found RawType)) → (bs : List (Behind RawType)) → FromCall whole bs (type_at goal (drop at reader.now)) → IfOk result (StepHolds limit reader.now whole bs) }
-    ensures falls { IfOk result (λ s. step_weight (length reader.now) s < 10 * (length reader.now - at) + 5) }
+    ensures holds { Starts (meaning limit reader.now) (type_at goal (drop at reader.now)) result }
+    ensures falls { Falls (meaning limit reader.now) (weight_at reader.now at 5) result }
 {
     match reader.kind(at) {
         Some(TokenKind::Name) => call_name(reader, alloc, limit, goal, at),
         Some(TokenKind::Mark(mark)) => call_mark(reader, alloc, limit, goal, at, mark),
-        Some(TokenKind::Number(_)) => Ok(TypeStep::Go(TypeState::Fail)),
-        None => Ok(TypeStep::Go(TypeState::Fail)),
+        Some(TokenKind::Number(_)) => Ok(Step::Fail),
+        None => Ok(Step::Fail),
     }
 }
 
@@ -175,13 +176,13 @@ fn close(
     piece: Piece<RawType>,
     at: usize,
 ) -> Result<TypeStep, NoMemory>
-    ensures holds { (whole : ℕ → Option (Found RawType)) → (bs : List (Behind RawType)) → (r : RawType) → IsPiece type_nesting limit piece r → Reach whole (bs ++ type_tail goal) (expect close_paren (drop at reader.now) (λ rest. Some (r, rest))) → IfOk result (StepHolds limit reader.now whole bs) }
-    ensures falls { IfOk result (λ s. step_weight (length reader.now) s < 10 * (length reader.now - at) + 1) }
+    ensures holds { (whole : ℕ → Option (Found RawType)) → (bs : List (Behind RawType)) → (r : RawType) → IsPiece type_nesting limit piece r → Reach whole (bs ++ type_tail goal) (expect close_paren (drop at reader.now) (λ rest. Some (r, rest))) → IfOk result (StepHolds (meaning limit reader.now) whole bs) }
+    ensures falls { Falls (meaning limit reader.now) (weight_at reader.now at 1) result }
 {
     if reader.is_mark(at, CLOSE_PAREN) {
-        return Ok(TypeStep::Go(TypeState::Atom(goal, piece, at + 1)));
+        return Ok(Step::Go(TypeState::Atom(goal, piece, at + 1)));
     }
-    Ok(TypeStep::Go(TypeState::Fail))
+    Ok(Step::Fail)
 }
 
 /// Goes on behind a type of a list.
@@ -194,12 +195,12 @@ fn further(
     goal: TypeGoal,
     at: usize,
 ) -> Result<TypeStep, NoMemory>
-    ensures holds { (whole : ℕ → Option (Found RawType)) → (bs : List (Behind RawType)) → (rs : List RawType) → (r : RawType) → IsPiece list_nesting limit types (rs ++ r ∷ []) → Reach whole (bs ++ (type_tail goal ++ types_behind name rs ∷ [])) (Some (r, drop at reader.now)) → IfOk result (StepHolds limit reader.now whole bs) }
-    ensures falls { IfOk result (λ s. step_weight (length reader.now) s < 10 * (length reader.now - at) + 1) }
+    ensures holds { (whole : ℕ → Option (Found RawType)) → (bs : List (Behind RawType)) → (rs : List RawType) → (r : RawType) → IsPiece list_nesting limit types (rs ++ r ∷ []) → Reach whole (bs ++ (type_tail goal ++ types_behind name rs ∷ [])) (Some (r, drop at reader.now)) → IfOk result (StepHolds (meaning limit reader.now) whole bs) }
+    ensures falls { Falls (meaning limit reader.now) (weight_at reader.now at 1) result }
 {
     if reader.is_mark(at, COMMA) {
         let frame = TypeFrame::Types(name, types, goal);
-        return Ok(TypeStep::Push(frame, TypeState::Call(TypeGoal::Whole, at + 1)));
+        return Ok(Step::Push(frame, TypeState::Call(TypeGoal::Whole, at + 1)));
     }
     let piece = named_piece(alloc, limit, name, types)?;
     close(reader, limit, goal, piece, at)
@@ -214,8 +215,8 @@ fn resume(
     piece: Piece<RawType>,
     at: usize,
 ) -> Result<TypeStep, NoMemory>
-    ensures holds { (whole : ℕ → Option (Found RawType)) → (bs : List (Behind RawType)) → (one : List (Behind RawType)) → (r : RawType) → IsFrame limit frame one → IsPiece type_nesting limit piece r → Reach whole (bs ++ one) (Some (r, drop at reader.now)) → at ≤ length reader.now → IfOk result (StepHolds limit reader.now whole bs) }
-    ensures falls { IfOk result (λ s. step_weight (length reader.now) s < 10 * (length reader.now - at) + 4) }
+    ensures holds { Resumes (meaning limit reader.now) frame piece at result }
+    ensures falls { Falls (meaning limit reader.now) (weight_at reader.now at 6) result }
 {
     match frame {
         TypeFrame::Paren(goal) => close(reader, limit, goal, piece, at),
@@ -225,7 +226,7 @@ fn resume(
         }
         TypeFrame::Factor(factor) => {
             let piece = prod_piece(alloc, limit, factor, piece)?;
-            Ok(TypeStep::Go(TypeState::Atom(TypeGoal::Whole, piece, at)))
+            Ok(Step::Go(TypeState::Atom(TypeGoal::Whole, piece, at)))
         }
         TypeFrame::Types(name, types, goal) => {
             let types = types_with(alloc, types, piece, limit)?;
@@ -234,81 +235,59 @@ fn resume(
     }
 }
 
-/// Goes on with a step, whose frame is pushed.
-fn enter(stack: &mut Vec<TypeFrame>, step: TypeStep) -> Result<TypeState, NoMemory>
-    ensures holds { (limit : ℕ) → (ts : List SpecToken) → (whole : ℕ → Option (Found RawType)) → (bs : List (Behind RawType)) → IsStack limit stack.old.items bs → StepHolds limit ts whole bs step → IfOk result (λ s. Holds limit ts whole stack.new.items s) }
-    ensures falls { (len : ℕ) → IfOk result (λ s. state_weight len s + 3 * length stack.new.items ≤ step_weight len step + 3 * length stack.old.items) }
-{
-    match step {
-        TypeStep::Go(state) => Ok(state),
-        TypeStep::Push(frame, state) => {
-            push(stack, frame)?;
-            Ok(state)
-        }
-    }
-}
-
-/// Does the last frame with the type that was found, or ends.
-fn pop(
-    reader: &Reader<'_>,
-    alloc: Global,
-    limit: u32,
-    stack: &mut Vec<TypeFrame>,
-    piece: Piece<RawType>,
-    at: usize,
-) -> Result<TypeState, NoMemory>
-    ensures holds { (whole : ℕ → Option (Found RawType)) → (bs : List (Behind RawType)) → IsStack limit stack.old.items bs → PieceReaches limit reader.now whole bs piece at → IfOk result (λ s. Holds limit reader.now whole stack.new.items s) }
-    ensures falls { IfOk result (λ s. state_weight (length reader.now) s + 3 * length stack.new.items < 10 * (length reader.now - at) + 1 + 3 * length stack.old.items) }
-{
-    let Some(frame) = stack.pop() else {
-        return Ok(TypeState::Found(piece, at));
-    };
-    let step = resume(reader, alloc, limit, frame, piece, at)?;
-    enter(stack, step)
-}
-
-/// Goes on behind a factor: with a further one, or with the last frame.
-fn another(
-    reader: &Reader<'_>,
-    alloc: Global,
-    limit: u32,
-    stack: &mut Vec<TypeFrame>,
-    piece: Piece<RawType>,
-    at: usize,
-) -> Result<TypeState, NoMemory>
-    ensures holds { (whole : ℕ → Option (Found RawType)) → (bs : List (Behind RawType)) → IsStack limit stack.old.items bs → PieceReaches limit reader.now whole (bs ++ factors ∷ []) piece at → IfOk result (λ s. Holds limit reader.now whole stack.new.items s) }
-    ensures falls { IfOk result (λ s. state_weight (length reader.now) s + 3 * length stack.new.items < 10 * (length reader.now - at) + 2 + 3 * length stack.old.items) }
+/// Goes on behind a factor: with a further one, or with what waits for the type.
+fn another(reader: &Reader<'_>, limit: u32, piece: Piece<RawType>, at: usize) -> TypeStep
+    ensures holds { GoesOn (meaning limit reader.now) (factors ∷ []) piece at (Ok result) }
+    ensures falls { Falls (meaning limit reader.now) (weight_at reader.now at 2) (Ok result) }
 {
     if reader.is_mark(at, PRODUCT_SIGN) {
-        push(stack, TypeFrame::Factor(piece))?;
-        return Ok(TypeState::Call(TypeGoal::Atom, at + 1));
+        return Step::Push(
+            TypeFrame::Factor(piece),
+            TypeState::Call(TypeGoal::Atom, at + 1),
+        );
     }
-    pop(reader, alloc, limit, stack, piece, at)
+    Step::Found(piece, at)
 }
 
-/// One step of the machine.
-fn step(
-    reader: &Reader<'_>,
+/// The machine that reads types.
+#[derive(Drop)]
+struct TypeMachine<'a> {
+    reader: &'a Reader<'a>,
     alloc: Global,
     limit: u32,
-    stack: &mut Vec<TypeFrame>,
-    state: TypeState,
-) -> Result<TypeState, NoMemory>
-    requires going { 0 < state_weight (length reader.now) state }
-    ensures holds { (whole : ℕ → Option (Found RawType)) → Holds limit reader.now whole stack.old.items state → IfOk result (λ s. Holds limit reader.now whole stack.new.items s) }
-    ensures falls { IfOk result (λ s. state_weight (length reader.now) s + 3 * length stack.new.items < state_weight (length reader.now) state + 3 * length stack.old.items) }
-{
-    match state {
-        TypeState::Call(goal, at) => {
-            let step = call(reader, alloc, limit, goal, at)?;
-            enter(stack, step)
+}
+
+impl<'a> Machine for TypeMachine<'a> {
+    type Frame = TypeFrame;
+
+    type State = TypeState;
+
+    type Piece = Piece<RawType>;
+
+    ghost use Rattle.ev_syntax.specs.Raw.{RawType};
+    ghost use Rattle.ev_syntax.specs.inner.TypeFrames.{meaning};
+
+    ghost Tree = { RawType };
+
+    ghost meaning = { λ m. meaning m.limit m.reader.now };
+
+    fn step(&self, state: TypeState) -> Result<TypeStep, NoMemory> {
+        match state {
+            TypeState::Call(goal, at) => call(self.reader, self.alloc, self.limit, goal, at),
+            TypeState::Atom(TypeGoal::Atom, piece, at) => Ok(Step::Found(piece, at)),
+            TypeState::Atom(TypeGoal::Whole, piece, at) => {
+                Ok(another(self.reader, self.limit, piece, at))
+            }
         }
-        TypeState::Atom(TypeGoal::Atom, piece, at) => pop(reader, alloc, limit, stack, piece, at),
-        TypeState::Atom(TypeGoal::Whole, piece, at) => {
-            another(reader, alloc, limit, stack, piece, at)
-        }
-        TypeState::Found(piece, at) => Ok(TypeState::Found(piece, at)),
-        TypeState::Fail => Ok(TypeState::Fail),
+    }
+
+    fn resume(
+        &self,
+        frame: TypeFrame,
+        piece: Piece<RawType>,
+        at: usize,
+    ) -> Result<TypeStep, NoMemory> {
+        resume(self.reader, self.alloc, self.limit, frame, piece, at)
     }
 }
 
@@ -322,13 +301,10 @@ pub fn read_type(
     requires { at ≤ length reader.now }
     ensures { IfOk result (TypeAnswer limit reader.now at) }
 {
-    let mut stack = Vec::new(alloc);
-    let mut state = TypeState::Call(TypeGoal::Whole, at);
-    loop {
-        match state {
-            TypeState::Found(piece, at) => return Ok(Some((piece, at))),
-            TypeState::Fail => return Ok(None),
-            going => state = step(reader, alloc, limit, &mut stack, going)?,
-        }
-    }
+    let machine = TypeMachine {
+        reader,
+        alloc,
+        limit,
+    };
+    run(&machine, alloc, TypeState::Call(TypeGoal::Whole, at))
 }

@@ -1,4 +1,5 @@
 //! What the reader of types has to do.
+use crate::machines::Step;
 use crate::read_pieces::Piece;
 use crate::written::{RawType, RawTypes};
 use ev_terms::Name;
@@ -20,18 +21,11 @@ pub(crate) enum TypeFrame {
     Types(Name, Piece<RawTypes>, TypeGoal),
 }
 
-/// To read a type at a place, to go on behind an atom, or the end: with a type, or with none.
+/// To read a type at a place, or to go on behind an atom.
 #[derive(Drop)]
 pub(crate) enum TypeState {
     Call(TypeGoal, usize),
     Atom(TypeGoal, Piece<RawType>, usize),
-    Found(Piece<RawType>, usize),
-    Fail,
 }
 
-/// What comes next, perhaps below a new frame.
-#[derive(Drop)]
-pub(crate) enum TypeStep {
-    Go(TypeState),
-    Push(TypeFrame, TypeState),
-}
+pub(crate) type TypeStep = Step<TypeFrame, TypeState, Piece<RawType>>;

@@ -14,7 +14,7 @@ use Rattle.ev_syntax.specs.declared.sorts.Sort.TheVariants.{Pred, Expr, Either, 
 use Rattle.ev_syntax.specs.inner.Finding.{Found}
 use Rattle.ev_syntax.specs.inner.TypeParser.{begins}
 use Rattle.ev_syntax.specs.inner.TypeFrames.{TypeAnswer}
-use Rattle.ev_syntax.specs.inner.Looking.{goes_on}
+use Rattle.ev_syntax.specs.inner.Lookahead.{goes_on}
 use Rattle.ev_syntax.specs.inner.FormulaParser.{is_relation, connects}
 use Rattle.ev_syntax.specs.Parses.{ReadsAs}
 use Rattle.ev_syntax.proofs.TypeMoves.{begins_at, begins_is}

@@ -10,12 +10,10 @@ ghost use Rattle.ev_theory_text.specs.inner.Places.{from_place, IsWithin, whole}
 use ev_parse::{Piece, Raw, RawType, Reader, Sort, closings_of, read_item};
 use ev_syntax::TokenKind;
 use ev_syntax::type_reader::read_type;
+use ev_terms::limits::NESTING_LIMIT;
 use ev_terms::{Name, NoMemory};
 use std::alloc::Global;
 use std::marker::Model;
-
-/// How deep formulas and types of elements may be nested.
-const LIMIT: u32 = 200;
 
 /// The place behind a mark, if that stands at a place.
 fn place_behind(reader: &Reader<'_>, at: Option<usize>, mark: u16) -> Option<usize>
@@ -133,7 +131,7 @@ impl<'a> Cursor<'a> {
         let Some(at) = self.at else {
             return Ok(None);
         };
-        match read_type(self.reader, alloc, LIMIT, at)? {
+        match read_type(self.reader, alloc, NESTING_LIMIT, at)? {
             Some((piece, to)) => {
                 self.at = Some(to);
                 Ok(whole(piece))
@@ -152,7 +150,14 @@ impl<'a> Cursor<'a> {
         let Some(at) = self.at else {
             return Ok(None);
         };
-        match read_item(self.reader, alloc, LIMIT, self.table.as_slice(), sort, at)? {
+        match read_item(
+            self.reader,
+            alloc,
+            NESTING_LIMIT,
+            self.table.as_slice(),
+            sort,
+            at,
+        )? {
             Some((piece, to)) => {
                 self.at = Some(to);
                 Ok(whole(piece))

@@ -1,16 +1,17 @@
 -- The work of the reader of formulas: what its frames and states stand for.
-use Rattle.std.specs.Prelude.{◌≡◌, ℕ, zero, suc, ◌+◌, ◌*◌, ◌-◌, ◌≤◌, ◌==◌, ◌||◌, Bool, if◌then◌else◌, List, [], ◌∷◌, ◌++◌, Option, Some, None, drop, length}
+use Rattle.std.specs.Prelude.{◌≡◌, ℕ, zero, suc, ◌-◌, ◌≤◌, ◌==◌, ◌||◌, Bool, if◌then◌else◌, List, [], ◌∷◌, ◌++◌, Option, Some, drop, length}
 use Rattle.ev_syntax.specs.Marks.{open_brace, close_brace, close_paren, close_bracket, bar, dot, minus_sign, not_word, finite_word, inverse_sign, open_paren, open_bracket, oftype_word}
 use Rattle.ev_syntax.specs.Tokens.{Token}
 use Rattle.ev_syntax.specs.Raw.{Binder, Pattern, Raw, Raws, call, around, unary, binary, apply, image, quantified, set_of, collected, lambda, members, one, none}
 use Rattle.ev_syntax.specs.Parts.{is_among}
-use Rattle.ev_syntax.specs.inner.Looking.{operator_of, is_from}
+use Rattle.ev_syntax.specs.inner.Lookahead.{operator_of, is_from}
 use Rattle.ev_syntax.specs.inner.Finding.{Found, on_found}
 use Rattle.ev_syntax.specs.inner.TypeParser.{expect}
 use Rattle.ev_syntax.specs.inner.BinderParser.{listed, parse_binders}
 use Rattle.ev_syntax.specs.inner.FormulaParser.{Want, level, a_lit, a_conj, a_pred, once_levels, prim, posts, after_operand, collects, literal_at, related, connect, connected, implied, whole_of, parse}
 use Rattle.ev_syntax.specs.inner.Resuming.{Behind, Reach, FromCall}
 use Rattle.ev_syntax.specs.inner.Pieces.{IsPiece}
+use Rattle.ev_syntax.specs.inner.Machines.{Meaning, weight_at}
 use Rattle.ev_syntax.specs.inner.BinderAnswers.{binder_nesting, own_nesting, IsPattern}
 use Rattle.ev_parse.specs.inner.Forms.{IsRaw, args_nesting, members_nesting, raw_onto}
 use Rattle.ev_parse.specs.declared.states.RawPiece.{RawPiece}
@@ -21,9 +22,7 @@ use Rattle.ev_parse.specs.declared.states.Goal.TheVariants.{Level, Stage as ASta
 use Rattle.ev_parse.specs.declared.states.Frame.{Frame}
 use Rattle.ev_parse.specs.declared.states.Frame.TheVariants.{Paren, Around, Args, Members, SetBody, Argument, Image, Right, Minus, Body, Value, LambdaBody, LambdaValue, Not, Quantified, Finite, Inner, Related, Relation, Connective, Implication}
 use Rattle.ev_parse.specs.declared.states.State.{State}
-use Rattle.ev_parse.specs.declared.states.State.TheVariants.{Call, Primary, Operand, Literal, Chain, Conjunct, Found as FoundFormula, End, Fail}
-use Rattle.ev_parse.specs.declared.states.Step.{Step}
-use Rattle.ev_parse.specs.declared.states.Step.TheVariants.{Go, Push}
+use Rattle.ev_parse.specs.declared.states.State.TheVariants.{Call, Primary, Operand, Literal, Chain, Conjunct}
 
 abbrev pub level_at : ℕ → List Token → ℕ → Option (Found Raw)
 level_at k ts g = parse g (level k) ts
@@ -191,11 +190,6 @@ module _ (limit : ℕ) where
   IsFrame (Connective m a s) cs = (r : Raw) × IsRaw limit a r × (cs ≡ stage_rest s ++ connective_behind m r ∷ [])
   IsFrame (Implication m a) cs = (r : Raw) × IsRaw limit a r × (cs ≡ binary_behind m r ∷ [])
 
-  -- frames, of which the last is the first to be done
-  abbrev pub IsStack : List Frame → List (Behind Raw) → Type 0
-  IsStack [] bs = bs ≡ []
-  IsStack (f ∷ fs) bs = (cs : List (Behind Raw)) × (rest : List (Behind Raw)) × IsFrame f cs × IsStack fs rest × (bs ≡ cs ++ rest)
-
   module _ (ts : List Token) (whole : ℕ → Option (Found Raw)) where
     -- a piece that ends before a place
     abbrev pub PieceReaches : List (Behind Raw) → RawPiece → ℕ → Type 0
@@ -209,31 +203,16 @@ module _ (limit : ℕ) where
     StateHolds bs (Literal p at s) = PieceReaches (bs ++ stage_tail s) p at
     StateHolds bs (Chain m p at s) = PieceReaches (bs ++ (stage_rest s ++ chain_behind m ∷ [])) p at
     StateHolds bs (Conjunct p at s) = PieceReaches (bs ++ stage_rest s) p at
-    StateHolds bs (FoundFormula p at) = PieceReaches bs p at
-    StateHolds bs (End p at) = PieceReaches [] p at
-    StateHolds bs Fail = Reach whole bs None
-
-    abbrev pub StepHolds : List (Behind Raw) → Step → Type 0
-    StepHolds bs (Go s) = StateHolds bs s
-    StepHolds bs (Push f s) = (cs : List (Behind Raw)) × IsFrame f cs × StateHolds (bs ++ cs) s
-
-    -- what holds between steps
-    abbrev pub Holds : List Frame → State → Type 0
-    Holds stack s = (bs : List (Behind Raw)) × IsStack stack bs × StateHolds bs s
 
 -- what falls with each step
-abbrev pub state_weight : ℕ → State → ℕ
-state_weight len (Call (Level k) at) = 20 * (len - at) + 6
-state_weight len (Call (AStage s) at) = 20 * (len - at) + 12
-state_weight len (Primary p at k) = 20 * (len - at) + 3
-state_weight len (Operand p at j k) = 20 * (len - at) + 2
-state_weight len (Literal p at s) = 20 * (len - at) + 4
-state_weight len (Chain m p at s) = 20 * (len - at) + 3
-state_weight len (Conjunct p at s) = 20 * (len - at) + 2
-state_weight len (FoundFormula p at) = 20 * (len - at) + 1
-state_weight len (End p at) = 0
-state_weight len Fail = 0
+abbrev pub state_weight : List Token → State → ℕ
+state_weight ts (Call (Level k) at) = weight_at ts at 6
+state_weight ts (Call (AStage s) at) = weight_at ts at 12
+state_weight ts (Primary p at k) = weight_at ts at 3
+state_weight ts (Operand p at j k) = weight_at ts at 2
+state_weight ts (Literal p at s) = weight_at ts at 4
+state_weight ts (Chain m p at s) = weight_at ts at 3
+state_weight ts (Conjunct p at s) = weight_at ts at 2
 
-abbrev pub step_weight : ℕ → Step → ℕ
-step_weight len (Go s) = state_weight len s
-step_weight len (Push f s) = 5 + state_weight len s
+abbrev pub meaning : ℕ → List Token → Meaning Raw Frame State RawPiece
+meaning limit ts = record { tokens = ts; frame = IsFrame limit; piece = IsRaw limit; state = StateHolds limit ts; state_weight = state_weight ts }

@@ -1,7 +1,7 @@
 -- The levels of infix signs.
 use Rattle.std.specs.Prelude.{ℕ, Option, Some, None}
 use Rattle.ev_syntax.specs.Parts.{Operator}
-use Rattle.ev_syntax.specs.inner.Looking.{operator_of}
+use Rattle.ev_syntax.specs.inner.Lookahead.{operator_of}
 
 abbrev pub level_of : Option Operator → ℕ
 level_of None = 0

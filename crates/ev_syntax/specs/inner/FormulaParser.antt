@@ -8,7 +8,7 @@ use Rattle.ev_syntax.specs.inner.Finding.{Found, on_found}
 use Rattle.ev_syntax.specs.inner.TypeParser.{begins, expect, parse_type, a_type}
 use Rattle.ev_syntax.specs.inner.BinderParser.{listed, parse_binders}
 use Rattle.ev_syntax.specs.inner.PatternParser.{parse_pattern, a_pattern}
-use Rattle.ev_syntax.specs.inner.Looking.{after_close, goes_on, is_at, token_operator, mark_number}
+use Rattle.ev_syntax.specs.inner.Lookahead.{after_close, goes_on, is_at, token_operator, mark_number}
 
 abbrev pub chain_levels : List ℕ
 chain_levels = 1 ∷ 2 ∷ 3 ∷ 5 ∷ 6 ∷ []

@@ -4,15 +4,15 @@ use Rattle.std.proofs.Common.{arith}
 use denote.Param.Weighed.{most}
 use Rattle.ev_syntax.specs.Raw.{Raw}
 use Rattle.ev_syntax.specs.inner.RawView.{raws, raw_of, height, heights}
-use Rattle.ev_syntax.specs.declared.formulas.RawForm.{RawForm}
-use Rattle.ev_syntax.specs.declared.formulas.RawForm.TheVariants.{Word, Literal, Param, TypeSet, Call, Around, Unary, Binary, Inverse, Apply, Image, OfType, Quantified, SetOf, Collected, Lambda, Members, Written}
-use Rattle.ev_syntax.specs.declared.formulas.Raw.TheDeep.{deep-RawForm}
+use Rattle.ev_syntax.specs.declared.formulas.FormulaForm.{FormulaForm}
+use Rattle.ev_syntax.specs.declared.formulas.FormulaForm.TheVariants.{Word, Literal, Param, TypeSet, Call, Around, Unary, Binary, Inverse, Apply, Image, OfType, Quantified, SetOf, Collected, Lambda, Members, Written}
+use Rattle.ev_syntax.specs.declared.formulas.Raw.TheDeep.{deep-FormulaForm}
 
 pub most_le-heights : (es : List Raw) → most (λ e. height e + 1) es ≤ heights (raws es) + 1
 most_le-heights [] = omega arith
 most_le-heights (e ∷ es) = omega (arith, most_le-heights es)
 
-pub falls : (f : RawForm) → max (deep-RawForm f) 0 ≤ height (raw_of f)
+pub falls : (f : FormulaForm) → max (deep-FormulaForm f) 0 ≤ height (raw_of f)
 falls (Word m) = omega arith
 falls (Literal n) = omega arith
 falls (Param i) = omega arith

@@ -1,15 +1,15 @@
 -- Raw trees by their forms, and their height.
 use Rattle.std.specs.Prelude.{ℕ, ◌+◌, max, List, [], ◌∷◌}
 use Rattle.ev_syntax.specs.Raw.{Raw, Raws, word, literal, param, type_set, call, around, unary, binary, inverse, apply, image, of_type, quantified, set_of, collected, lambda, members, written, none, one}
-use Rattle.ev_syntax.specs.declared.formulas.RawForm.{RawForm}
-use Rattle.ev_syntax.specs.declared.formulas.RawForm.TheVariants.{Word, Literal, Param, TypeSet, Call, Around, Unary, Binary, Inverse, Apply, Image, OfType, Quantified, SetOf, Collected, Lambda, Members, Written}
+use Rattle.ev_syntax.specs.declared.formulas.FormulaForm.{FormulaForm}
+use Rattle.ev_syntax.specs.declared.formulas.FormulaForm.TheVariants.{Word, Literal, Param, TypeSet, Call, Around, Unary, Binary, Inverse, Apply, Image, OfType, Quantified, SetOf, Collected, Lambda, Members, Written}
 
 abbrev pub raws : List Raw → Raws
 raws [] = none
 raws (e ∷ es) = one e (raws es)
 
 -- the raw tree of a form
-abbrev pub raw_of : RawForm → Raw
+abbrev pub raw_of : FormulaForm → Raw
 raw_of (Word m) = word m
 raw_of (Literal n) = literal n
 raw_of (Param i) = param i

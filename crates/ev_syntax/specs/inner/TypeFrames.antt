@@ -1,5 +1,5 @@
 -- The work of the reader of types: what its frames and states stand for.
-use Rattle.std.specs.Prelude.{◌≡◌, ℕ, ◌+◌, ◌*◌, ◌-◌, ◌≤◌, ◌<◌, List, [], ◌∷◌, ◌++◌, Option, Some, None, drop, length}
+use Rattle.std.specs.Prelude.{◌≡◌, ℕ, ◌≤◌, ◌<◌, List, [], ◌∷◌, ◌++◌, Option, Some, None, drop, length}
 use Rattle.ev_syntax.specs.Marks.{close_paren}
 use Rattle.ev_syntax.specs.Tokens.{Token}
 use Rattle.ev_syntax.specs.Raw.{RawType, RawTypes, named_type, pow_type, prod_type, one_type, type_nesting, types_nesting}
@@ -8,15 +8,14 @@ use Rattle.ev_syntax.specs.inner.Finding.{Found, on_found, Comes}
 use Rattle.ev_syntax.specs.inner.TypeParser.{Want, an_atom, a_type, expect, type_atom, more_factors, more_types, parse_type}
 use Rattle.ev_syntax.specs.inner.Resuming.{Behind, Reach, FromCall}
 use Rattle.ev_syntax.specs.inner.Pieces.{IsPiece}
+use Rattle.ev_syntax.specs.inner.Machines.{Meaning, weight_at}
 use Rattle.ev_syntax.specs.declared.read_pieces.Piece.{Piece}
 use Rattle.ev_syntax.specs.declared.type_states.TypeGoal.{TypeGoal}
 use Rattle.ev_syntax.specs.declared.type_states.TypeGoal.TheVariants.{Atom as AnAtom, Whole as AType}
 use Rattle.ev_syntax.specs.declared.type_states.TypeFrame.{TypeFrame}
 use Rattle.ev_syntax.specs.declared.type_states.TypeFrame.TheVariants.{Paren, Pow, Factor, Types}
 use Rattle.ev_syntax.specs.declared.type_states.TypeState.{TypeState}
-use Rattle.ev_syntax.specs.declared.type_states.TypeState.TheVariants.{Call, Atom, Found as FoundType, Fail}
-use Rattle.ev_syntax.specs.declared.type_states.TypeStep.{TypeStep}
-use Rattle.ev_syntax.specs.declared.type_states.TypeStep.TheVariants.{Go, Push}
+use Rattle.ev_syntax.specs.declared.type_states.TypeState.TheVariants.{Call, Atom}
 
 abbrev pub want : TypeGoal → Want
 want AnAtom = an_atom
@@ -65,44 +64,23 @@ module _ (limit : ℕ) where
   IsFrame (Factor a) bs = (r : RawType) × IsPiece type_nesting limit a r × (bs ≡ factor_behind r ∷ [])
   IsFrame (Types name done goal) bs = (rs : List RawType) × IsPiece list_nesting limit done rs × (bs ≡ type_tail goal ++ types_behind name rs ∷ [])
 
-  -- frames, of which the last is the first to be done
-  abbrev pub IsStack : List TypeFrame → List (Behind RawType) → Type 0
-  IsStack [] bs = bs ≡ []
-  IsStack (f ∷ fs) bs = (one : List (Behind RawType)) × (rest : List (Behind RawType)) × IsFrame f one × IsStack fs rest × (bs ≡ one ++ rest)
-
-  module _ (ts : List Token) (whole : ℕ → Option (Found RawType)) where
-    -- a piece that ends before a place
-    abbrev pub PieceReaches : List (Behind RawType) → Piece RawType → ℕ → Type 0
-    PieceReaches bs p at = (r : RawType) × IsPiece type_nesting limit p r × Reach whole bs (Some (r, drop at ts)) × (at ≤ length ts)
-
-    abbrev pub StateHolds : List (Behind RawType) → TypeState → Type 0
-    StateHolds bs (Call goal at) = FromCall whole bs (type_at goal (drop at ts)) × (at ≤ length ts)
-    StateHolds bs (Atom goal p at) = PieceReaches (bs ++ type_tail goal) p at
-    StateHolds bs (FoundType p at) = PieceReaches [] p at
-    StateHolds bs Fail = Reach whole bs None
-
-    abbrev pub StepHolds : List (Behind RawType) → TypeStep → Type 0
-    StepHolds bs (Go s) = StateHolds bs s
-    StepHolds bs (Push f s) = (one : List (Behind RawType)) × IsFrame f one × StateHolds (bs ++ one) s
-
-    -- what holds between steps
-    abbrev pub Holds : List TypeFrame → TypeState → Type 0
-    Holds stack s = (bs : List (Behind RawType)) × IsStack stack bs × StateHolds bs s
+  abbrev pub StateHolds : List Token → (ℕ → Option (Found RawType)) → List (Behind RawType) → TypeState → Type 0
+  StateHolds ts whole bs (Call goal at) = FromCall whole bs (type_at goal (drop at ts)) × (at ≤ length ts)
+  StateHolds ts whole bs (Atom goal p at) =
+      (r : RawType) × IsPiece type_nesting limit p r × Reach whole (bs ++ type_tail goal) (Some (r, drop at ts)) × (at ≤ length ts)
 
 -- what falls with each step
 abbrev pub goal_weight : TypeGoal → ℕ
-goal_weight AnAtom = 1
-goal_weight AType = 2
+goal_weight AnAtom = 2
+goal_weight AType = 3
 
-abbrev pub state_weight : ℕ → TypeState → ℕ
-state_weight len (Call goal at) = 10 * (len - at) + 5
-state_weight len (Atom goal p at) = 10 * (len - at) + goal_weight goal
-state_weight len (FoundType p at) = 0
-state_weight len Fail = 0
+abbrev pub state_weight : List Token → TypeState → ℕ
+state_weight ts (Call goal at) = weight_at ts at 5
+state_weight ts (Atom goal p at) = weight_at ts at (goal_weight goal)
 
-abbrev pub step_weight : ℕ → TypeStep → ℕ
-step_weight len (Go s) = state_weight len s
-step_weight len (Push f s) = 3 + state_weight len s
+abbrev pub meaning : ℕ → List Token → Meaning RawType TypeFrame TypeState (Piece RawType)
+meaning limit ts =
+    record { tokens = ts; frame = IsFrame limit; piece = IsPiece type_nesting limit; state = StateHolds limit ts; state_weight = state_weight ts }
 
 -- what the reader answers of the tokens from a place on
 abbrev pub TypeAnswer : ℕ → List Token → ℕ → Option (Piece RawType × ℕ) → Type 0

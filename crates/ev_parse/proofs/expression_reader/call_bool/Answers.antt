@@ -10,7 +10,7 @@ use Rattle.ev_parse.proofs.expression_reader.call_bool.Goals as goal
 
 pub returns-then-not-is_mark-clause-holds : goal.returns-then-not-is_mark-clause-holds
 returns-then-not-is_mark-clause-holds c = λ whole bs h. let t = c.args.reader.now in let at = c.args.at in
-    moves.part_none whole bs (tail c.args.k) (drop at t) (mark bool_word ∷ drop (at + 1) t) c.requires.seen h
+    moves.part_none whole bs (tail c.args.k) (drop at t) (mark bool_word ∷ drop (at + 1) t) c.requires.token h
     (λ g. no_bool (drop (at + 1) t) g (sym c.is_mark.ensures.is ∙ c.if-not-is_mark.true))
 
 pub returns-clause-holds : goal.returns-clause-holds
@@ -19,7 +19,7 @@ returns-clause-holds c = λ whole bs h. let t = c.args.reader.now in let at = c.
   refl,
   (
     moves.part_inner whole bs (tail c.args.k) (around_behind bool_word) (stage_at Pred (drop (at + 2) t)) (drop at t) (mark bool_word ∷ mark open_paren ∷ drop (at + 2) t)
-        (two_on t at (mark bool_word) (mark open_paren) c.requires.seen (begins_at open_paren t (at + 1) (sym c.is_mark.ensures.is ∙ c.if-not-is_mark.false))) h (λ g. refl),
+        (two_on t at (mark bool_word) (mark open_paren) c.requires.token (begins_at open_paren t (at + 1) (sym c.is_mark.ensures.is ∙ c.if-not-is_mark.false))) h (λ g. refl),
     (let w = (c.is_mark.ensures.inside c.if-not-is_mark.false).0 in omega arith),
   ),
 )

@@ -16,14 +16,14 @@ returns-then-is_mark-clause-holds c = λ whole bs h. let t = c.args.reader.now i
     c.leaf.ensures.holds whole bs
     (subst (λ y. moves.Below whole bs (tail c.args.k) (Some (y, drop (at + 2) t))) (ap (λ ys. members (raws ys)) (sym c.new.ensures))
     (moves.part_found whole bs (tail c.args.k) (drop at t) (mark open_brace ∷ mark close_brace ∷ drop (at + 2) t) (Some (members none, drop (at + 2) t))
-    (two_on t at (mark open_brace) (mark close_brace) c.requires.seen (begins_at close_brace t (at + 1) (sym c.is_mark.ensures.is ∙ c.if-is_mark.true))) h (λ g. refl)))
+    (two_on t at (mark open_brace) (mark close_brace) c.requires.token (begins_at close_brace t (at + 1) (sym c.is_mark.ensures.is ∙ c.if-is_mark.true))) h (λ g. refl)))
     (let w = (c.is_mark.ensures.inside c.if-is_mark.true).0 in omega arith)
 
 pub returns-in-None-clause-holds : goal.returns-in-None-clause-holds
 returns-in-None-clause-holds c = λ whole bs h. let t = c.args.reader.now in let at = c.args.at in
     let a = subst (BinderAnswer c.args.limit t (at + 1)) c.in-None.is c.in_ok-binder.ensures in
     c.call_members.ensures.holds whole bs
-    (members_part whole bs (tail c.args.k) (drop at t) (drop (at + 1) t) c.requires.seen (sym c.is_mark.ensures.is ∙ c.if-is_mark.false) h (None, a, tt) (no_binders (drop (at + 1) t) a))
+    (members_part whole bs (tail c.args.k) (drop at t) (drop (at + 1) t) c.requires.token (sym c.is_mark.ensures.is ∙ c.if-is_mark.false) h (None, a, tt) (no_binders (drop (at + 1) t) a))
 
 pub returns-else-not-is_mark-clause-holds : goal.returns-else-not-is_mark-clause-holds
 returns-else-not-is_mark-clause-holds c = λ whole bs h. let t = c.args.reader.now in let at = c.args.at in
@@ -31,7 +31,7 @@ returns-else-not-is_mark-clause-holds c = λ whole bs h. let t = c.args.reader.n
       tail c.args.k ++ set_behind a.0 ∷ [],
       (a.0, a.1, refl),
       (
-        set_part whole bs (tail c.args.k) (drop at t) (drop (at + 1) t) c.requires.seen (sym c.is_mark.ensures.is ∙ c.if-is_mark.false) h a.0 (drop c.in-Some.to t) (drop (c.in-Some.to + 1) t) a.2
+        set_part whole bs (tail c.args.k) (drop at t) (drop (at + 1) t) c.requires.token (sym c.is_mark.ensures.is ∙ c.if-is_mark.false) h a.0 (drop c.in-Some.to t) (drop (c.in-Some.to + 1) t) a.2
             (begins_at bar t c.in-Some.to (sym c.is_mark-in-Some.ensures.is ∙ c.if-not-is_mark.false)),
         (let w = (c.is_mark-in-Some.ensures.inside c.if-not-is_mark.false).0 in omega arith),
       ),

@@ -12,7 +12,7 @@ use Rattle.ev_parse.proofs.expression_reader.call_name.Goals as goal
 
 pub returns-then-is_mark-clause-holds : goal.returns-then-is_mark-clause-holds
 returns-then-is_mark-clause-holds c = λ whole bs h.
-    let n = c.requires.seen.0 in let e = c.requires.seen.1 in let t = c.args.reader.now in let at = c.args.at in let x = c.in_ok-name.name in
+    let n = c.requires.token.0 in let e = c.requires.token.1 in let t = c.args.reader.now in let at = c.args.at in let x = c.in_ok-name.name in
     let same : x ≡ n = c.in_ok-name.ensures n _ e in
     let paren : drop (at + 1) t ≡ mark open_paren ∷ drop ((at + 1) + 1) t = begins_at open_paren t (at + 1) (sym c.is_mark.ensures.is ∙ c.if-is_mark.true) in (
       tail c.args.k ++ args_behind x [] ∷ [],
@@ -27,7 +27,7 @@ returns-then-is_mark-clause-holds c = λ whole bs h.
 
 pub returns-clause-holds : goal.returns-clause-holds
 returns-clause-holds c = λ whole bs h.
-    let n = c.requires.seen.0 in let e = c.requires.seen.1 in let t = c.args.reader.now in let at = c.args.at in let x = c.in_ok-name.name in
+    let n = c.requires.token.0 in let e = c.requires.token.1 in let t = c.args.reader.now in let at = c.args.at in let x = c.in_ok-name.name in
     let same : x ≡ n = c.in_ok-name.ensures n _ e in
     c.leaf.ensures.holds whole bs
     (subst (λ y. moves.Below whole bs (tail c.args.k) (Some (y, drop (at + 1) t))) (ap (λ y. call y none) (sym same) ∙ ap (λ ys. call x (raws ys)) (sym c.new-2.ensures))

@@ -17,11 +17,11 @@ returns-in-Some-clause-holds c = λ whole bs h.
     let last : drop (at + 2) t ≡ r.0 = (let n : at + 2 ≡ (at + 1) + 1 = omega arith in ap (λ k. drop k t) n ∙ next_place t (at + 1) (number i) r.0 r.1) in
     c.leaf.ensures.holds whole bs
     (subst (λ xs. moves.Below whole bs (tail c.args.k) (Some (param i, xs))) (sym last)
-    (moves.part_found whole bs (tail c.args.k) (drop at t) (mark param_sign ∷ drop (at + 1) t) (Some (param i, r.0)) c.requires.seen h
+    (moves.part_found whole bs (tail c.args.k) (drop at t) (mark param_sign ∷ drop (at + 1) t) (Some (param i, r.0)) c.requires.token h
     (λ g. param_part i (drop (at + 1) t) r.0 g r.1 d)))
     (let w = c.in-Some.ensures.inside.0 in omega arith)
 
 pub returns-in-None-clause-holds : goal.returns-in-None-clause-holds
 returns-in-None-clause-holds c = λ whole bs h. let t = c.args.reader.now in let at = c.args.at in
-    moves.part_none whole bs (tail c.args.k) (drop at t) (mark param_sign ∷ drop (at + 1) t) c.requires.seen h
+    moves.part_none whole bs (tail c.args.k) (drop at t) (mark param_sign ∷ drop (at + 1) t) c.requires.token h
     (λ g. no_param (drop (at + 1) t) g (sym c.small_number.ensures.is ∙ c.in-None.is))

@@ -8,7 +8,7 @@ returns-then-is_relation-clause-holds c = λ whole bs r p h le. let t = c.args.r
   stage_tail c.args.stage ++ binary_behind c.args.mark r ∷ [],
   (r, p, refl),
   (
-    moves.at_relation whole bs (stage_tail c.args.stage) r c.args.mark (drop at t) (drop (at + 1) t) c.requires.seen (sym c.is_relation.ensures ∙ c.if-is_relation.true) h,
+    moves.at_relation whole bs (stage_tail c.args.stage) r c.args.mark (drop at t) (drop (at + 1) t) c.requires.token (sym c.is_relation.ensures ∙ c.if-is_relation.true) h,
     (let w = c.requires.inside.0 in omega arith),
     omega arith,
   ),
@@ -16,4 +16,4 @@ returns-then-is_relation-clause-holds c = λ whole bs r p h le. let t = c.args.r
 
 pub returns-clause-holds : goal.returns-clause-holds
 returns-clause-holds c = λ whole bs r p h le. let t = c.args.reader.now in let at = c.args.at in
-    c.named.ensures.holds whole bs r p (moves.at_other whole bs (stage_tail c.args.stage) r c.args.mark (drop at t) (drop (at + 1) t) c.requires.seen (sym c.is_relation.ensures ∙ c.if-is_relation.false) h) le
+    c.named.ensures.holds whole bs r p (moves.at_other whole bs (stage_tail c.args.stage) r c.args.mark (drop at t) (drop (at + 1) t) c.requires.token (sym c.is_relation.ensures ∙ c.if-is_relation.false) h) le

@@ -10,7 +10,7 @@ use Rattle.ev_parse.proofs.predicate_reader.open_paren.Goals as goal
 
 pub returns-in-None-clause-holds : goal.returns-in-None-clause-holds
 returns-in-None-clause-holds c = λ whole bs h. let t = c.args.reader.now in let at = c.args.at in
-    moves.part_none whole bs c.args.stage (drop at t) (mark open_paren ∷ drop (at + 1) t) c.requires.seen h
+    moves.part_none whole bs c.args.stage (drop at t) (mark open_paren ∷ drop (at + 1) t) c.requires.token h
     (λ g. open_none (drop (at + 1) t) g (subst (Closes t (at + 1)) c.in-None.is c.entry.ensures))
 
 pub returns-then-goes_on-clause-holds : goal.returns-then-goes_on-clause-holds
@@ -19,8 +19,8 @@ returns-then-goes_on-clause-holds c = λ whole bs h. let t = c.args.reader.now i
       stage_tail c.args.stage ++ related_behind ∷ [],
       refl,
       (
-        subst (λ us. moves.Called whole bs (stage_tail c.args.stage ++ related_behind ∷ []) us) (sym c.requires.seen)
-            (moves.part_inner whole bs c.args.stage related_behind (level_at 0 (mark open_paren ∷ drop (at + 1) t)) (drop at t) (mark open_paren ∷ drop (at + 1) t) c.requires.seen h
+        subst (λ us. moves.Called whole bs (stage_tail c.args.stage ++ related_behind ∷ []) us) (sym c.requires.token)
+            (moves.part_inner whole bs c.args.stage related_behind (level_at 0 (mark open_paren ∷ drop (at + 1) t)) (drop at t) (mark open_paren ∷ drop (at + 1) t) c.requires.token h
             (λ g. open_expression (drop (at + 1) t) (drop c.in-Some.to t) g e.0 (sym c.goes_on.ensures ∙ c.if-goes_on.true))),
         (let w = c.requires.inside.0 in omega arith),
         omega arith,
@@ -33,7 +33,7 @@ returns-else-goes_on-clause-holds c = λ whole bs h. let t = c.args.reader.now i
       stage_tail c.args.stage ++ paren_behind ∷ [],
       refl,
       (
-        moves.part_inner whole bs c.args.stage paren_behind (stage_at Pred (drop (at + 1) t)) (drop at t) (mark open_paren ∷ drop (at + 1) t) c.requires.seen h
+        moves.part_inner whole bs c.args.stage paren_behind (stage_at Pred (drop (at + 1) t)) (drop at t) (mark open_paren ∷ drop (at + 1) t) c.requires.token h
             (λ g. open_predicate (drop (at + 1) t) (drop c.in-Some.to t) g e.0 (sym c.goes_on.ensures ∙ c.if-goes_on.false)),
         let w = c.requires.inside.0 in omega arith,
       ),

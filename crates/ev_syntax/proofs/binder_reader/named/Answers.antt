@@ -10,7 +10,7 @@ use Rattle.ev_syntax.proofs.binder_reader.named.Goals as goal
 
 pub returns-in-Some : goal.returns-in-Some
 returns-in-Some c =
-    let n = c.requires.seen.0 in let e = c.requires.seen.1 in let t = c.args.reader.now in let at = c.args.at in
+    let n = c.requires.token.0 in let e = c.requires.token.1 in let t = c.args.reader.now in let at = c.args.at in
     let same : c.in_ok-name.name ≡ n = c.in_ok-name.ensures n _ e in
     let word : drop (at + 1) t ≡ mark oftype_word ∷ drop ((at + 1) + 1) t = begins_at oftype_word t (at + 1) (sym c.is_mark.ensures.is ∙ c.if-not-is_mark.false) in
     let a = subst (TypeAnswer c.args.limit t (at + 2)) c.in-Some.is c.in_ok-written.ensures in (
@@ -24,6 +24,6 @@ returns-in-Some c =
 
 pub returns-in-None : goal.returns-in-None
 returns-in-None c =
-    let n = c.requires.seen.0 in let e = c.requires.seen.1 in let t = c.args.reader.now in let at = c.args.at in
+    let n = c.requires.token.0 in let e = c.requires.token.1 in let t = c.args.reader.now in let at = c.args.at in
     let word : drop (at + 1) t ≡ mark oftype_word ∷ drop ((at + 1) + 1) t = begins_at oftype_word t (at + 1) (sym c.is_mark.ensures.is ∙ c.if-not-is_mark.false) in
     typed_name n (drop at t) (drop (at + 2) t) _ (two_on t at (name n) (mark oftype_word) e word) (subst (TypeAnswer c.args.limit t (at + 2)) c.in-None.is c.in_ok-written.ensures)

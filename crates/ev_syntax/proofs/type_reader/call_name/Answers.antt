@@ -10,7 +10,7 @@ use Rattle.ev_syntax.proofs.type_reader.call_name.Goals as goal
 
 pub returns-then-is_mark-clause-holds : goal.returns-then-is_mark-clause-holds
 returns-then-is_mark-clause-holds c = λ whole bs h.
-    let n = c.requires.seen.0 in let e = c.requires.seen.1 in let t = c.args.reader.now in let at = c.args.at in
+    let n = c.requires.token.0 in let e = c.requires.token.1 in let t = c.args.reader.now in let at = c.args.at in
     let same : c.in_ok-name.name ≡ n = c.in_ok-name.ensures n _ e in
     let paren : drop (at + 1) t ≡ mark open_paren ∷ drop ((at + 1) + 1) t = begins_at open_paren t (at + 1) (sym c.is_mark.ensures.is ∙ c.if-is_mark.true) in (
       type_tail c.args.goal ++ types_behind c.in_ok-name.name [] ∷ [],
@@ -24,7 +24,7 @@ returns-then-is_mark-clause-holds c = λ whole bs h.
 
 pub returns-clause-holds : goal.returns-clause-holds
 returns-clause-holds c = λ whole bs h.
-    let n = c.requires.seen.0 in let e = c.requires.seen.1 in let t = c.args.reader.now in let at = c.args.at in
+    let n = c.requires.token.0 in let e = c.requires.token.1 in let t = c.args.reader.now in let at = c.args.at in
     let same : c.in_ok-name.name ≡ n = c.in_ok-name.ensures n _ e in
     c.leaf.ensures.holds whole bs
     (subst (λ a. moves.Reaches whole bs c.args.goal a (drop (at + 1) t)) (ap (λ x. named_type x no_types) (sym same) ∙ ap (λ xs. named_type c.in_ok-name.name (raw_types xs)) (sym c.new-2.ensures))

@@ -14,11 +14,11 @@ returns-in-Some-clause-holds c = λ whole bs h.
     let last : drop (at + 2) t ≡ r.0 = (let n : at + 2 ≡ (at + 1) + 1 = omega arith in ap (λ k. drop k t) n ∙ next_place t (at + 1) (number i) r.0 r.1) in
     c.leaf.ensures.holds whole bs
     (subst (λ xs. moves.Reaches whole bs c.args.goal (param_type i) xs) (sym last)
-    (moves.leaf whole bs c.args.goal (drop at t) (mark param_sign ∷ drop (at + 1) t) r.0 (param_type i) c.requires.seen h
+    (moves.leaf whole bs c.args.goal (drop at t) (mark param_sign ∷ drop (at + 1) t) r.0 (param_type i) c.requires.token h
     (λ g. param_found i (drop (at + 1) t) r.0 g r.1 d)))
     (let w = c.in-Some.ensures.inside.0 in omega arith)
 
 pub returns-in-None-clause-holds : goal.returns-in-None-clause-holds
 returns-in-None-clause-holds c = λ whole bs h.
-    moves.no_leaf whole bs c.args.goal (drop c.args.at c.args.reader.now) (mark param_sign ∷ drop (c.args.at + 1) c.args.reader.now) c.requires.seen h
+    moves.no_leaf whole bs c.args.goal (drop c.args.at c.args.reader.now) (mark param_sign ∷ drop (c.args.at + 1) c.args.reader.now) c.requires.token h
     (λ g. no_param (drop (c.args.at + 1) c.args.reader.now) g (sym c.small_number.ensures.is ∙ c.in-None.is))

@@ -1,4 +1,4 @@
--- What a parser looks at: operators, and what comes behind closing parentheses.
+-- What a parser looks ahead at: operators, and what comes behind closing parentheses.
 use Rattle.std.specs.Prelude.{ℕ, zero, suc, Bool, false, ◌||◌, ◌==◌, nat_le, find, if◌then◌else◌, List, [], ◌∷◌, Option, Some, None}
 use Rattle.ev_syntax.specs.Marks.{open_paren, close_paren, open_bracket, inverse_sign, oftype_word}
 use Rattle.ev_syntax.specs.Tokens.{Token, name, number, mark}

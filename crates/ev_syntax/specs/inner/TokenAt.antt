@@ -5,15 +5,15 @@ use Rattle.ev_syntax.specs.declared.kinds.TokenKind.TheVariants.{Name, Number, M
 use Rattle.ev_syntax.specs.Tokens.{Token, name, number, mark}
 
 -- the token at the place, and those behind it
-abbrev pub Sees : Option TokenKind → List Token → ℕ → Type 0
-Sees None ts at = drop at ts ≡ []
-Sees (Some Name) ts at = (n : List ℕ) × (drop at ts ≡ name n ∷ drop (at + 1) ts)
-Sees (Some (Number n)) ts at = drop at ts ≡ number n ∷ drop (at + 1) ts
-Sees (Some (Mark m)) ts at = drop at ts ≡ mark m ∷ drop (at + 1) ts
+abbrev pub IsTokenAt : Option TokenKind → List Token → ℕ → Type 0
+IsTokenAt None ts at = drop at ts ≡ []
+IsTokenAt (Some Name) ts at = (n : List ℕ) × (drop at ts ≡ name n ∷ drop (at + 1) ts)
+IsTokenAt (Some (Number n)) ts at = drop at ts ≡ number n ∷ drop (at + 1) ts
+IsTokenAt (Some (Mark m)) ts at = drop at ts ≡ mark m ∷ drop (at + 1) ts
 
 -- a place where a token stands
-abbrev pub IsInside : List Token → ℕ → Type 0
-IsInside ts at = (at < length ts) × (length ts < 2 ^ 60)
+abbrev pub IsIndex : List Token → ℕ → Type 0
+IsIndex ts at = (at < length ts) × (length ts < 2 ^ 60)
 
 -- a number below 2^32 that stands first
 abbrev pub small_number : List Token → Option ℕ
