@@ -1,27 +1,30 @@
 //! Bare terms: those that formulas mean, their annotations, and their texts. A variable is `x` and the number of binders between, a base
 //! symbol is `#` and its number.
-use crate::formulas::{extent_text, raw_of};
+use crate::formulas::{extent_text, formula_names, raw_of};
 use crate::refusals::Refusal;
 use crate::settings::Setting;
-use ev_infer::{annotate, same_pattern};
+use ev_infer::annotate;
 use ev_print::print_type;
 use ev_resolve::{
-    Bare, BareForm, BareTerms, ScopeVariable, bare_literal, bare_symbol, bare_variable, resolve,
+    Bare, BareForm, BareTerms, Scope, ScopeVariable, bare_literal, bare_symbol, bare_variable,
+    resolve,
 };
 use ev_syntax::Sort;
 use ev_terms::{NoMemory, Sym, Tree, TryCopy, Ty};
 use ev_typing::Vars;
-use ev_unify::Pat;
 use std::alloc::Global;
 
 /// The variables in scope, the innermost last.
-fn scope_of(alloc: Global, vars: &Vars) -> Result<Vec<ScopeVariable>, NoMemory> {
-    let mut scope = Vec::new(alloc);
+fn scope_of(alloc: Global, vars: &Vars) -> Result<Scope, NoMemory> {
+    let mut scope = Scope::new(alloc);
     for var in vars.as_slice() {
-        scope.push(ScopeVariable {
-            name: Some(var.name.try_copy(alloc)?),
-            is_predicate: matches!(var.ty, Ty::Prop),
-        })?;
+        scope.push(
+            alloc,
+            ScopeVariable {
+                name: Some(var.name.try_copy(alloc)?),
+                is_predicate: matches!(var.ty, Ty::Prop),
+            },
+        )?;
     }
     Ok(scope)
 }
@@ -29,26 +32,27 @@ fn scope_of(alloc: Global, vars: &Vars) -> Result<Vec<ScopeVariable>, NoMemory> 
 /// The bare term that a text means.
 fn bare_of(alloc: Global, setting: &Setting, sort: Sort, text: &[u8]) -> Result<Bare, Refusal> {
     let raw = raw_of(alloc, text, sort, setting.nesting)?;
-    let mut scope = scope_of(alloc, &setting.vars)?;
-    match resolve(alloc, &setting.env, &setting.params, &raw, &mut scope)? {
+    let scope = scope_of(alloc, &setting.vars)?;
+    let known = formula_names(alloc, setting)?;
+    match resolve(alloc, &known, &raw, scope)? {
         Some(bare) => Ok(bare),
         None => Err(Refusal::NoTerm),
     }
 }
 
 /// The type of a variable. A predicate variable stands in the context with BOOL.
-fn pattern_of(alloc: Global, ty: &Ty) -> Result<Pat, NoMemory> {
+fn type_of(alloc: Global, ty: &Ty) -> Result<Ty, NoMemory> {
     match ty {
-        Ty::Prop => Ok(Pat::Bool),
-        _ => same_pattern(alloc, ty),
+        Ty::Prop => Ok(Ty::Bool),
+        _ => ty.try_copy(alloc),
     }
 }
 
 /// The types of the variables, the outermost first.
-fn context_of(alloc: Global, vars: &Vars) -> Result<Vec<Pat>, NoMemory> {
+fn context_of(alloc: Global, vars: &Vars) -> Result<Vec<Ty>, NoMemory> {
     let mut context = Vec::new(alloc);
     for var in vars.as_slice() {
-        context.push(pattern_of(alloc, &var.ty)?)?;
+        context.push(type_of(alloc, &var.ty)?)?;
     }
     Ok(context)
 }
@@ -60,11 +64,11 @@ fn annotated(
     asked: Option<&Ty>,
     bare: &Bare,
 ) -> Result<Vec<u8>, Refusal> {
-    let mut context = context_of(alloc, &setting.vars)?;
+    let context = context_of(alloc, &setting.vars)?;
     let tree = annotate(
         alloc,
         &setting.env,
-        &mut context,
+        context.as_slice(),
         bare,
         asked,
         &setting.limit,
@@ -88,7 +92,7 @@ pub fn annotated_extent(
 #[tactic(auto, using(ev_typing::proofs::BaseSequents::walk))]
 fn forgotten(alloc: Global, tree: &Tree) -> Result<Bare, NoMemory> {
     if let Some(i) = tree.var() {
-        return Ok(bare_variable(i));
+        return Ok(bare_variable(i as usize));
     }
     if let Some(n) = tree.lit() {
         return Ok(bare_literal(n));
@@ -186,7 +190,7 @@ fn push_node(
 #[tactic(auto, using(crate::proofs::Heights::bare_terms))]
 fn push_bare(alloc: Global, line: &mut Vec<u8>, bare: &Bare) -> Result<(), NoMemory> {
     match bare.form() {
-        BareForm::Var(i) => push_number(alloc, line, "x", u128::from(*i)),
+        BareForm::Var(i) => push_number(alloc, line, "x", *i as u128),
         BareForm::Lit(n) => push_number(alloc, line, "", *n),
         BareForm::Node(sym, written, children) => {
             push_node(alloc, line, sym, written, children.as_slice())

@@ -4,7 +4,7 @@ use crate::settings::Setting;
 use ev_infer::infer;
 use ev_parse::parse_formula;
 use ev_print::print;
-use ev_resolve::{has_taken_binder, has_unknown_name, is_formula_name};
+use ev_resolve::{FormulaNames, has_taken_binder, has_unknown_name};
 use ev_syntax::{Raw, Sort, lex};
 use ev_terms::{Extent, Name, NoMemory, Tree, TryCopy, Ty, extent, same};
 use ev_typing::{Var, Vars};
@@ -22,6 +22,14 @@ pub fn raw_of(alloc: Global, text: &[u8], sort: Sort, nesting: u32) -> Result<Ra
     Ok(parse_formula(alloc, text, &tokens, sort, nesting)?)
 }
 
+/// The formula names of a setting.
+pub fn formula_names(alloc: Global, setting: &Setting) -> Result<FormulaNames<'_>, Refusal> {
+    if setting.params.len() > u32::MAX as usize {
+        return Err(Refusal::Case);
+    }
+    Ok(FormulaNames::new(alloc, &setting.env, &setting.params)?)
+}
+
 /// The only annotation of a text, at the type that is asked, where one is.
 fn tree_of(
     alloc: Global,
@@ -31,6 +39,9 @@ fn tree_of(
     text: &[u8],
 ) -> Result<Tree, Refusal> {
     let raw = raw_of(alloc, text, sort, setting.nesting)?;
+    if setting.params.len() > u32::MAX as usize {
+        return Err(Refusal::Case);
+    }
     Ok(infer(
         alloc,
         &setting.env,
@@ -68,6 +79,9 @@ fn printed_vars(alloc: Global, vars: &Vars) -> Result<Vars, NoMemory> {
 fn read_back(alloc: Global, setting: &Setting, sort: Sort, text: &[u8]) -> Result<Tree, Refusal> {
     let raw = raw_of(alloc, text, sort, BACK)?;
     let vars = printed_vars(alloc, &setting.vars)?;
+    if setting.params.len() > u32::MAX as usize {
+        return Err(Refusal::Case);
+    }
     Ok(infer(
         alloc,
         &setting.env,
@@ -153,10 +167,11 @@ pub fn names_in(
     text: &[u8],
 ) -> Result<Vec<u8>, Refusal> {
     let raw = raw_of(alloc, text, sort, setting.nesting)?;
-    let mut scope = names_of(alloc, &setting.vars)?;
-    let is_unknown = has_unknown_name(alloc, &setting.env, &setting.params, &mut scope, &raw)?;
+    let variables = names_of(alloc, &setting.vars)?;
+    let known = formula_names(alloc, setting)?;
+    let is_unknown = has_unknown_name(alloc, &known, variables.as_slice(), &raw)?;
     let first = if is_unknown { "unknown" } else { "known" };
-    let is_taken = has_taken_binder(&setting.env, &setting.params, &raw);
+    let is_taken = has_taken_binder(&known, &raw);
     let second = if is_taken { "taken" } else { "free" };
     let text = format!(in alloc; "{first} {second}")?;
     Ok(text.as_bytes().to_vec(alloc)?)
@@ -165,7 +180,8 @@ pub fn names_in(
 /// Whether a name is a formula name.
 pub fn name_kind(alloc: Global, setting: &Setting, text: &[u8]) -> Result<Vec<u8>, Refusal> {
     let name = Name::from_slice(alloc, text)?;
-    let kind: &[u8] = if is_formula_name(&setting.env, &setting.params, &name) {
+    let known = formula_names(alloc, setting)?;
+    let kind: &[u8] = if known.has(&name) {
         b"formula name"
     } else {
         b"no formula name"

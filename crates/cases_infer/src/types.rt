@@ -2,7 +2,7 @@
 //! of a datatype, declared or not.
 use crate::formulas::raw_of;
 use crate::refusals::Refusal;
-use ev_syntax::{RawForm, RawType, RawTypeForm, Sort};
+use ev_syntax::{FormulaForm, RawType, RawTypeForm, Sort};
 use ev_terms::{Name, Names, NoMemory, Shared, TryCopy, Ty, Tys};
 use std::alloc::Global;
 
@@ -61,7 +61,7 @@ fn type_of(alloc: Global, params: &Names, written: &RawType) -> Result<Ty, NoMem
 pub fn read_type(alloc: Global, params: &Names, text: &[u8]) -> Result<Ty, Refusal> {
     let raw = raw_of(alloc, text, Sort::TypeText, 200)?;
     match raw.form() {
-        RawForm::Written(written) => Ok(type_of(alloc, params, written)?),
+        FormulaForm::Written(written) => Ok(type_of(alloc, params, written)?),
         _ => Err(Refusal::Case),
     }
 }

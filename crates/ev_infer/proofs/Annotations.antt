@@ -25,13 +25,13 @@ use Rattle.ev_infer.proofs.Inferring.{context_reverse, good_reverse}
 use Rattle.ev_infer.proofs.RawAnswers.{no_bare}
 use Rattle.ev_infer.specs.Answers.{variables, IsFound}
 use Rattle.ev_infer.specs.inner.Marked.{is_marked, uses_marked}
-use Rattle.ev_infer.specs.inner.Mended.{mended}
+use Rattle.ev_infer.specs.inner.Improper.{with_type_or_int}
 use Rattle.ev_infer.specs.inner.Variables.{is_name, IsVariable, FitsAsked, StandsAlone, IsVariableAnswer}
 use Rattle.ev_infer.proofs.Both.{AreAlike, gives_move}
 use Rattle.ev_infer.proofs.Retyped.{retyped, no_variable_result, used_clash, unused_typed}
 use Rattle.ev_infer.proofs.VariableSteps.{one_variable}
 use Rattle.ev_infer.proofs.Variables.{reads_variable, name_gives}
-use Rattle.ev_infer.proofs.MendedTypes.{mended_proper, alike, keeps, apart, back, marks}
+use Rattle.ev_infer.proofs.ImproperVariables.{proper_or_int, alike, keeps, apart, back, marks}
 
 by_form : (t : Term) → ((i : ℕ) × (t ≡ var i)) ⊎ ((i : ℕ) → t ≡ var i → ⊥)
 by_form (var i) = inl (i, refl)
@@ -78,7 +78,7 @@ module _ (env : Env) (params : List (List ℕ)) (raw : Raw) (expected : Option T
     here = variables vars
 
     abbrev there : List Variable
-    there = variables (map (mended env) vars)
+    there = variables (map (with_type_or_int env) vars)
 
     abbrev C : List Ty
     C = context_of (reverse here)
@@ -97,19 +97,19 @@ module _ (env : Env) (params : List (List ℕ)) (raw : Raw) (expected : Option T
     kept t a n =
         retyped env signatures t C D a.annotates.type (keeps env vars) (typed_here t a) (no_variable_result env signatures C t a.annotates.type n (typed_here t a))
 
-    to_mended : (t : Term) (a : Annotation here t) → ((i : ℕ) → t ≡ var i → ⊥) → Annotation there t
-    to_mended t a n = moved here there t (alike env vars) a (kept t a n)
+    to_or_int : (t : Term) (a : Annotation here t) → ((i : ℕ) → t ≡ var i → ⊥) → Annotation there t
+    to_or_int t a n = moved here there t (alike env vars) a (kept t a n)
 
     fits_there : (t : Term) → Annotation there t → (b : Bare) → resolve params (known_of env) raw (map forget (reverse here)) ≡ Some b → Fits env b D t
     fits_there t a b e =
-        let (c, ec, fc) = to_bare env signatures params (known_of env) raw (reverse there) t (good_reverse env there (mended_proper env vars)) a.annotates.gives (a.annotates.type, typed_there t a) in
+        let (c, ec, fc) = to_bare env signatures params (known_of env) raw (reverse there) t (good_reverse env there (proper_or_int env vars)) a.annotates.gives (a.annotates.type, typed_there t a) in
         transport (λ x. Fits env x D t) (some_gives _ _ (sym e ∙ ap (resolve params (known_of env) raw) (alike env vars) ∙ ec)) fc
 
     -- no bare term, no annotation
     pub none_found : resolve params (known_of env) raw (map forget (reverse here)) ≡ None → HasNoAnnotation env params here raw expected
     none_found e t a = elim (by_form t) as (λ _. ⊥) [
       | inl (i, q) ↦ no_some _ (sym e ∙ (reads_variable env params (known_of env) raw (reverse here) i (transport (λ x. Rattle.ev_resolve.specs.Reading.Gives params (known_of env) (Typed env) raw (reverse here) x) q a.annotates.gives)).resolved)
-      | inr n ↦ no_bare env params there raw expected (λ m p h. signatures (Rattle.ev_terms.specs.declared.types.Sym.TheVariants.User m) p h) (mended_proper env vars) (sym (ap (resolve params (known_of env) raw) (alike env vars)) ∙ e) t (to_mended t a n)
+      | inr n ↦ no_bare env params there raw expected (λ m p h. signatures (Rattle.ev_terms.specs.declared.types.Sym.TheVariants.User m) p h) (proper_or_int env vars) (sym (ap (resolve params (known_of env) raw) (alike env vars)) ∙ e) t (to_or_int t a n)
     ]
       where
         no_some : (b : Bare) → None ≡ Some b → ⊥
@@ -129,7 +129,7 @@ module _ (env : Env) (params : List (List ℕ)) (raw : Raw) (expected : Option T
           | inl (i, q) ↦ moved here there t (alike env vars) a
               (transport (λ x. Typed env D x a.annotates.type) (sym q)
               (back env vars i a.annotates.type (unmarked_variable b (marks env vars) C i u (alone t a i q).1) (transport (λ x. Typed env C x a.annotates.type) q (typed_here t a))))
-          | inr n ↦ to_mended t a n
+          | inr n ↦ to_or_int t a n
         ],
         λ a. moved there here t (sym (alike env vars)) a
             (unused_typed env b C D (marks env vars) t a.annotates.type (apart env vars) (fits_there t a b resolved) (typed_there t a) u),
@@ -139,7 +139,7 @@ module _ (env : Env) (params : List (List ℕ)) (raw : Raw) (expected : Option T
       only_alone : uses_marked b (marks env vars) ≡ true → (t : Term) (a : Annotation here t) → (i : ℕ) × (t ≡ var i)
       only_alone u t a = elim (by_form t) as (λ _. (i : ℕ) × (t ≡ var i)) [
         | inl h ↦ h
-        | inr n ↦ absurd (used_clash env b C D (marks env vars) t a.annotates.type (apart env vars) (fits_there t (to_mended t a n) b resolved) (typed_here t a) (kept t a n) u)
+        | inr n ↦ absurd (used_clash env b C D (marks env vars) t a.annotates.type (apart env vars) (fits_there t (to_or_int t a n) b resolved) (typed_here t a) (kept t a n) u)
       ]
 
       fits_asked : (t : Term) (a : Annotation here t) (i : ℕ) → t ≡ var i → FitsAsked C i expected
@@ -198,7 +198,7 @@ module _ (env : Env) (params : List (List ℕ)) (raw : Raw) (expected : Option T
     only_move m t h = ((m t).1 h.0, λ u a. h.1 u ((m u).0 a))
 
     -- what is found with INT put in is found
-    pub found_move : ((t : Term) → Annotation here t ↔ Annotation there t) → (limit : Extent) (r : Result Term InferFault) → IsFound env params (map (mended env) vars) raw expected limit r → IsFound env params vars raw expected limit r
+    pub found_move : ((t : Term) → Annotation here t ↔ Annotation there t) → (limit : Extent) (r : Result Term InferFault) → IsFound env params (map (with_type_or_int env) vars) raw expected limit r → IsFound env params vars raw expected limit r
     found_move m limit (Ok t) h = (only_move m t h.0, h.1)
     found_move m limit (Err Unknown) h = h
     found_move m limit (Err Taken) h = h

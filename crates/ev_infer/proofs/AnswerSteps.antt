@@ -1,40 +1,39 @@
 -- The answers of inference by the equations of a bare term.
-use Rattle.std.specs.Prelude.{◌≡◌, ◌≢◌, ℕ, zero, suc, ◌+◌, ◌<◌, ◌≤◌, ◌^◌, ◌⊎◌, ◌||◌, ◌==◌, max, min, Bool as Boolean, true, false, List, [], ◌∷◌, ◌++◌, Option, Some, None, option_map, option_and_then, if◌then◌else◌, refl}
+use Rattle.std.specs.Prelude.{◌≡◌, ℕ, zero, suc, ◌+◌, ◌<◌, ◌≤◌, ◌^◌, ◌⊎◌, ◌||◌, ◌==◌, max, Bool as Boolean, true, false, List, [], ◌++◌, map, Option, Some, None, option_map, option_and_then, if◌then◌else◌, refl}
 use Rattle.std.proofs.Common.{ap, sym, ◌∙◌, arith, inl, inr, subst as transport}
-use Rattle.std.proofs.lemmas.Bool.{eqb-true, eq-eqb}
+use Rattle.std.proofs.lemmas.Bool.{eqb-true}
 use Rattle.ev_terms.specs.declared.extents.Extent.{Extent}
 use Rattle.ev_terms.specs.declared.types.Ty.{Ty, Int as IntType, Bool as BoolType, Prop, Param as ParamType, Data as DataType}
 use Rattle.ev_terms.specs.declared.types.Tys.{Tys, Empty as NoTypes}
-use Rattle.ev_terms.specs.declared.types.Sym.{Sym}
 use Rattle.ev_terms.specs.Types.{pow, prod, more}
-use Rattle.ev_terms.specs.Term.{Term, Terms, node, cons}
+use Rattle.ev_terms.specs.Term.{Term, node, cons}
 use Rattle.ev_terms.specs.Measures.{size, sizes, depth, depths, types_size, types_depth}
 use Rattle.ev_typing.specs.Env.{Env, profile}
 use Rattle.ev_typing.specs.Proper.{is_result}
-use Rattle.ev_unify.specs.declared.patterns.Pat.{Pat, Unknown}
-use Rattle.ev_unify.specs.declared.patterns.Pats.{Pats, Empty}
+use Rattle.ev_unify.specs.declared.patterns.Pat.{Pat}
+use Rattle.ev_unify.specs.declared.patterns.Pats.{Empty}
 use Rattle.ev_unify.specs.declared.patterns.PatPair.{PatPair}
 use Rattle.ev_unify.specs.declared.patterns.Bind.{Bind}
-use Rattle.ev_unify.specs.Patterns.{pow_pat, prod_pat, more_pats, value, values, has_unknown, have_unknown, followed, all_followed}
-use Rattle.ev_unify.specs.Solutions.{HasSolution, IsMostGeneral, IsUnifier, bound_to, of_bound, follow}
-use Rattle.ev_unify.proofs.Followed.{more_by, follow_step, unifier_general}
+use Rattle.ev_unify.specs.Patterns.{values, has_unknown, have_unknown, all_followed}
+use Rattle.ev_unify.specs.Solutions.{HasSolution, IsMostGeneral, IsUnifier, follow}
+use Rattle.ev_unify.proofs.Followed.{follow_step, unifier_general}
 use Rattle.ev_infer.specs.declared.bulks.Bulk.{Bulk}
 use Rattle.ev_infer.specs.declared.sorts.Walked.{Walked}
-use Rattle.ev_infer.specs.declared.sorts.Sort.{Sort}
 use Rattle.ev_infer.specs.declared.solving.Table.{Table}
 use Rattle.ev_infer.specs.declared.faults.InferFault.{InferFault}
 use Rattle.ev_infer.specs.declared.faults.InferFault.TheVariants as fault
 use Rattle.ev_infer.specs.Annotates.{IsPast}
 use Rattle.ev_resolve.specs.Bare.{Bare, Bares, bare_var, bare_lit, bare_node, bare_of, bare_none, bare_more}
-use Rattle.ev_infer.specs.Equations.{PatTerm, PatTerms, pat_var, pat_lit, pat_node, pat_nil, pat_cons, filled, all_filled, pattern_of, patterns_of, same_pattern, unknowns, sort_of, meet, Emitted, emit}
+use Rattle.ev_infer.specs.Equations.{PatTerm, PatTerms, pat_var, pat_lit, pat_node, pat_nil, pat_cons, filled, all_filled, patterns_of, same_pattern, unknowns, sort_of, meet, Emitted, emit}
 use Rattle.ev_infer.specs.inner.Numbers.{params_of, node_numbers, numbered, all_numbered}
 use Rattle.ev_infer.specs.Inference.{is_open, are_open, leaves_free, leave_free, asked, with_pairs, bare_equations}
 use Rattle.ev_infer.specs.inner.Walks.{Walk, AllWalk, walk_of, walk_told, all_walk_told}
-use Rattle.ev_infer.specs.inner.Bulks.{cap, bulk, above, beside, type_bulk, types_bulk, tree_bulk, trees_bulk, pats_bulk, term_bulk, terms_bulk, bulk_at, type_at_unknown, IsWithin}
-use Rattle.ev_infer.specs.inner.Solving.{IsEnded, ended_type, IsSolved, AreSolved, LeavesFree}
+use Rattle.ev_infer.specs.inner.Bulks.{bulk, above, beside, type_bulk, types_bulk, tree_bulk, trees_bulk, term_bulk, terms_bulk, bulk_at, type_at_unknown, IsWithin}
+use Rattle.ev_infer.specs.inner.Solving.{IsEnded, ended_type, IsSolved, UseBelow}
 use Rattle.ev_infer.specs.declared.annotation.Equations.{Equations}
 use Rattle.ev_infer.specs.inner.Answering.{pairs_of, equations_told, asked_walk, IsSettled, OnFault, IsGiven, IsSolvedTable, OnSolveFault, IsFilled, OnFillFault}
 use Rattle.ev_infer.proofs.Sound.{and_then_gives, map_gives, if_gives, some_gives}
+use Rattle.ev_infer.proofs.Below.{equations_use}
 use Rattle.ev_infer.proofs.Numbers.{emit_numbered}
 use Rattle.ev_infer.proofs.UnknownSteps.{all_closed_followed, bulk_values, values_within, within_less}
 
@@ -316,6 +315,16 @@ settled env b equations pairs next f S h = record { emitted = f.emitted; general
 decide_true : (b : Boolean) → ¬ (b ≡ false) → b ≡ true
 decide_true true h = refl
 decide_true false h = absurd (h refl)
+
+-- the equations that the code has, by the context that they are made in
+pub equations_at : (env : Env) (made ctx : List Pat) (expected : Option Ty) (b : Bare) (q : Equations) (o : Option Equations) → made ≡ ctx → o ≡ Some q → option_map equations_told o ≡ option_map pairs_of (bare_equations env made expected b)
+    → Some (equations_told q) ≡ option_map pairs_of (bare_equations env ctx expected b)
+equations_at env made ctx expected b q o e f h = ap (option_map equations_told) (sym f) ∙ h ∙ ap (λ x. option_map pairs_of (bare_equations env x expected b)) e
+
+pub equations_below : (env : Env) (types : List Ty) (expected : Option Ty) (b : Bare) (q : Equations) → Some (equations_told q) ≡ option_map pairs_of (bare_equations env (map same_pattern types) expected b) → UseBelow q.next q.pairs
+equations_below env types expected b q h =
+    let (e, eo, ew) = pairs_out (bare_equations env (map same_pattern types) expected b) (equations_told q) h in
+    transport (λ n. UseBelow n q.pairs) (sym (ap (λ (x : AllWalk). x.next) ew)) (transport (UseBelow e.next) (sym (ap (λ (x : AllWalk). x.pairs) ew)) (equations_use env types expected b e eo))
 
 -- no solution, or a free unknown
 pub solve_fault : (env : Env) (ctx : List Pat) (expected : Option Ty) (b : Bare) (q : Equations) (limit : Extent) → Some (equations_told q) ≡ option_map pairs_of (bare_equations env ctx expected b)

@@ -1,5 +1,5 @@
 -- What the steps of inference answer.
-use Rattle.std.specs.Prelude.{◌≡◌, ℕ, Bool as Boolean, true, false, not, List, map, reverse, Option, Some, None, Result, Ok, Err, IfOk, IfErr, refl}
+use Rattle.std.specs.Prelude.{◌≡◌, ℕ, Bool as Boolean, true, false, not, List, [], ◌∷◌, map, reverse, Option, Some, None, Result, Ok, Err, IfOk, IfErr, refl}
 use Rattle.std.proofs.Common.{ap, sym, ◌∙◌, subst as transport}
 use Rattle.std.proofs.lemmas.List.Folds.{Any-from_list_any, list_any-from_Any}
 use Rattle.ev_terms.specs.declared.extents.Extent.{Extent}
@@ -18,7 +18,8 @@ use Rattle.ev_infer.specs.declared.faults.InferFault.{InferFault}
 use Rattle.ev_infer.specs.declared.faults.InferFault.TheVariants.{Unknown, Taken, IllTyped, Ambiguous, TooLarge, NoMemory}
 use Rattle.ev_resolve.specs.UsedNames.{is_formula_name, used_names, binder_names, variable_names}
 use Rattle.ev_infer.specs.Annotates.{HasUnknownName, HasTakenBinder, variables_context}
-use Rattle.ev_resolve.specs.Reading.{Variable}
+use Rattle.ev_resolve.specs.Reading.{Variable, context_type}
+use Rattle.ev_infer.specs.Equations.{same_pattern}
 use Rattle.ev_infer.proofs.Values.{map-reverse}
 use Rattle.ev_resolve.specs.Bare.{Bare}
 use Rattle.ev_resolve.specs.Resolve.{known_of, forget, resolve}
@@ -30,9 +31,9 @@ use Rattle.ev_infer.proofs.RawAnswers.{answers as answers_of_bare}
 use Rattle.ev_resolve.specs.inner.Unknown.{is_unknown, uses_unknown}
 use Rattle.ev_infer.specs.Answers.{variables, IsUnknown, IsTaken, IsFound, IsFoundOf, IsAnswer}
 use Rattle.ev_infer.specs.inner.Marked.{uses_marked}
-use Rattle.ev_infer.specs.inner.Mended.{marked, mended}
+use Rattle.ev_infer.specs.inner.Improper.{marked, with_type_or_int}
 use Rattle.ev_infer.specs.inner.Variables.{IsVariableAnswer}
-use Rattle.ev_infer.proofs.MendedTypes.{mended_proper, alike, marks}
+use Rattle.ev_infer.proofs.ImproperVariables.{proper_or_int, alike, marks}
 use Rattle.ev_infer.proofs.Annotations.{none_found, unused, variable_answers, found_move}
 
 not_true : (b : Boolean) → not b ≡ true → b ≡ false
@@ -121,12 +122,12 @@ module _ (env : Env) (params : List (List ℕ)) (vars : List Var) (raw : Raw) wh
         Fault ctx f = OnFault (bare_equations env ctx expected b) limit f
 
         abbrev there : List Variable
-        there = variables (map (mended env) vars)
+        there = variables (map (with_type_or_int env) vars)
 
         facts : AnswersOf env params there raw expected limit (bare_equations env (variable_patterns there) expected b)
-        facts = answers_of_bare env params there raw expected b limit (user_signatures env well) (mended_proper env vars) free (sym (ap (resolve params (known_of env) raw) (alike env vars)) ∙ resolved)
+        facts = answers_of_bare env params there raw expected b limit (user_signatures env well) (proper_or_int env vars) free (sym (ap (resolve params (known_of env) raw) (alike env vars)) ∙ resolved)
 
-        settled : (r : Result Term InferFault) → IfOk r (Given (variable_patterns there)) → IfErr r (Fault (variable_patterns there)) → IsFound env params (map (mended env) vars) raw expected limit r
+        settled : (r : Result Term InferFault) → IfOk r (Given (variable_patterns there)) → IfErr r (Fault (variable_patterns there)) → IsFound env params (map (with_type_or_int env) vars) raw expected limit r
         settled (Ok t) h g = facts.only t h
         settled (Err Unknown) h g = absurd g
         settled (Err Taken) h g = absurd g
@@ -149,10 +150,16 @@ pub bare_alone : (env : Env) (vars : List Var) (raw : Raw) (expected : Option Ty
 bare_alone env vars raw expected limit b well ms m u r h params free e =
     alone_found env params vars raw expected limit well free b (map forget (reverse (variables vars))) refl (sym e) ms (variables_context (variables vars)) m u refl r h
 
-pub bare_given : (env : Env) (vars : List Var) (raw : Raw) (expected : Option Ty) (limit : Extent) (b : Bare) → IsWellFormed env → (ms : List Boolean) (ctx : List Pat) → ms ≡ map (marked env) vars → uses_marked b (reverse ms) ≡ false
-    → ctx ≡ variable_patterns (variables (map (mended env) vars)) → (r : Result Term InferFault) → IfOk r (IsGiven (bare_equations env ctx expected b) limit) → IfErr r (OnFault (bare_equations env ctx expected b) limit) → IsFoundOf env vars raw b expected limit r
-bare_given env vars raw expected limit b well ms ctx m u c r h g params free e =
-    given_found env params vars raw expected limit well free b (map forget (reverse (variables vars))) refl (sym e) ms ctx m u c r h g
+-- the types in a context as patterns
+same_context : (vs : List Variable) → map same_pattern (variables_context vs) ≡ variable_patterns vs
+same_context [] = refl
+same_context (v ∷ vs) = ap (λ ps. same_pattern (context_type v.type) ∷ ps) (same_context vs)
+
+pub bare_given : (env : Env) (vars : List Var) (raw : Raw) (expected : Option Ty) (limit : Extent) (b : Bare) → IsWellFormed env → (ms : List Boolean) (types : List Ty) → ms ≡ map (marked env) vars → uses_marked b (reverse ms) ≡ false
+    → types ≡ variables_context (variables (map (with_type_or_int env) vars)) → (r : Result Term InferFault)
+    → IfOk r (IsGiven (bare_equations env (map same_pattern types) expected b) limit) → IfErr r (OnFault (bare_equations env (map same_pattern types) expected b) limit) → IsFoundOf env vars raw b expected limit r
+bare_given env vars raw expected limit b well ms types m u c r h g params free e =
+    given_found env params vars raw expected limit well free b (map forget (reverse (variables vars))) refl (sym e) ms (map same_pattern types) m u (ap (map same_pattern) c ∙ same_context (variables (map (with_type_or_int env) vars))) r h g
 
 pub found_of : (env : Env) (params : List (List ℕ)) (vars : List Var) (raw : Raw) (expected : Option Ty) (limit : Extent) (b : Bare) (vs : List Variable) (o : Option Bare) → takes_name env params raw ≡ false → vs ≡ map forget (reverse (variables vars))
     → o ≡ resolve params (known_of env) raw vs → o ≡ Some b → (r : Result Term InferFault) → IsFoundOf env vars raw b expected limit r → IsFound env params vars raw expected limit r

@@ -7,7 +7,7 @@ use Rattle.ev_terms.specs.declared.types.Sym.{Sym}
 use Rattle.ev_terms.specs.declared.types.Sym.TheVariants.{User}
 use Rattle.ev_terms.specs.Term.{Term, Terms, var, node, nil, cons}
 use Rattle.ev_terms.specs.Symbols.{binds}
-use Rattle.ev_terms.specs.Subst.{type_inst, type_at}
+use Rattle.ev_terms.specs.Substitution.{type_inst, type_at}
 use Rattle.ev_syntax.specs.Marks.{open_brace, union_over_word}
 use Rattle.ev_syntax.specs.Raw.{Binder, Pattern, bound, pair, pattern_binders, Raw, Raws, word, literal, param, type_set, call, around, unary, binary, inverse, apply, image, of_type, quantified, set_of, collected, lambda, members, written, none, one}
 use Rattle.ev_forms.specs.Base as base

@@ -7,14 +7,12 @@ use Rattle.ev_terms.specs.Types.{pow, prod}
 use Rattle.ev_typing.specs.Env.{Env}
 use Rattle.ev_typing.specs.Proper.{is_result}
 use Rattle.ev_typing.proofs.Names.{drop_at, drop_all}
-use Rattle.ev_unify.specs.declared.patterns.Pat.{Pat, Int as IntPat}
 use Rattle.ev_infer.proofs.Values.{map-reverse}
-use Rattle.ev_infer.specs.Equations.{same_pattern}
 use Rattle.ev_resolve.specs.Reading.{Variable, context_type}
 use Rattle.ev_resolve.specs.Resolve.{forget_type, forget}
-use Rattle.ev_resolve.specs.declared.names.ScopeVariable.{ScopeVariable}
+use Rattle.ev_resolve.specs.declared.scope.ScopeVariable.{ScopeVariable}
 use Rattle.ev_resolve.specs.inner.Scopes.{seen, scope_of}
-use Rattle.ev_infer.specs.inner.Mended.{mended_type}
+use Rattle.ev_infer.specs.inner.Improper.{type_or_int}
 
 pub ruleset names = (drop_at, drop_all, reverse-append)
 
@@ -44,12 +42,12 @@ forgotten_type (pow A) n = refl
 forgotten_type (prod A B) n = refl
 forgotten_type (Data n As) m = refl
 
-pub improper_pattern : (env : Env) (A : Ty) → is_result env A ≡ false → IntPat ≡ same_pattern (context_type (mended_type env A))
-improper_pattern env A e = ap (λ b. same_pattern (context_type (if b then A else Int))) (sym e)
+pub improper_type : (env : Env) (A : Ty) → is_result env A ≡ false → Int ≡ context_type (type_or_int env A)
+improper_type env A e = ap (λ b. context_type (if b then A else Int)) (sym e)
 
-pub proper_pattern : (env : Env) (A : Ty) (p : Pat) → is_result env A ≡ true → A ≢ Prop → p ≡ same_pattern A → p ≡ same_pattern (context_type (mended_type env A))
-proper_pattern env A p e n q = q ∙ ap same_pattern (sym (plain_type A n)) ∙ ap (λ b. same_pattern (context_type (if b then A else Int))) (sym e)
+pub proper_type : (env : Env) (A B : Ty) → is_result env A ≡ true → B ≡ context_type A → B ≡ context_type (type_or_int env A)
+proper_type env A B e q = q ∙ ap (λ b. context_type (if b then A else Int)) (sym e)
 
-pub ruleset patterns = (improper_pattern, proper_pattern, plain_type)
+pub ruleset patterns = (improper_type, proper_type, plain_type)
 
 pub ruleset variables = (forgotten_type)

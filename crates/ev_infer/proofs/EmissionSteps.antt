@@ -1,6 +1,6 @@
 -- What the walk that emits pairs needs.
-use Rattle.std.specs.Prelude.{◌≡◌, ◌≢◌, ℕ, zero, suc, ◌+◌, ◌-◌, ◌<◌, ◌≤◌, ◌^◌, ◌==◌, ◌↔◌, Bool as Boolean, true, false, if◌then◌else◌, nat_lt, List, [], ◌∷◌, ◌++◌, Option, Some, None, option_map, option_and_then, slice_get, reverse, take, drop, length, IsTrue, refl}
-use Rattle.std.proofs.Common.{ap, sym, ◌∙◌, arith, append_assoc, get_or, subst as transport}
+use Rattle.std.specs.Prelude.{◌≡◌, ◌≢◌, ℕ, zero, suc, ◌+◌, ◌-◌, ◌<◌, ◌≤◌, ◌^◌, ◌↔◌, Bool as Boolean, true, false, if◌then◌else◌, nat_lt, List, [], ◌∷◌, ◌++◌, Option, Some, None, option_map, option_and_then, slice_get, reverse, take, drop, length, IsTrue, refl}
+use Rattle.std.proofs.Common.{ap, sym, ◌∙◌, arith, append_assoc, get_or}
 use Rattle.std.proofs.lemmas.Bool.{lt-ltb}
 use Rattle.std.proofs.lemmas.Option.{slice_get-get_or, slice_get_past}
 use Rattle.std.proofs.lemmas.List.{get_or-reverse, length-reverse}
@@ -11,25 +11,22 @@ use Rattle.ev_terms.proofs.ListLaws.{binds_le}
 use Rattle.ev_typing.specs.Profiles.{Profile}
 use Rattle.ev_typing.specs.Env.{Env, profile}
 use Rattle.ev_typing.specs.Typing.{IsProper}
-use Rattle.ev_typing.specs.Proper.{is_proper}
 use Rattle.ev_typing.proofs.Names.{drop_at, drop_all}
 use Rattle.ev_unify.specs.declared.patterns.Pat.{Pat, Int}
-use Rattle.ev_unify.specs.declared.patterns.Pats.{Pats, Empty}
+use Rattle.ev_unify.specs.declared.patterns.Pats.{Pats}
 use Rattle.ev_unify.specs.declared.patterns.PatPair.{PatPair}
 use Rattle.ev_unify.specs.Patterns.{pat_list}
 use Rattle.ev_infer.specs.declared.sorts.Sort.{Sort}
-use Rattle.ev_infer.specs.declared.sorts.Sort.TheVariants.{Predicate as predicate, Expression as expression}
+use Rattle.ev_infer.specs.declared.sorts.Sort.TheVariants.{Expression as expression}
 use Rattle.ev_infer.specs.declared.sorts.Walked.{Walked}
 use Rattle.ev_infer.specs.declared.sorts.NodePats.{NodePats}
 use Rattle.ev_resolve.specs.declared.signatures.SymbolTypes.{SymbolTypes}
-use Rattle.ev_resolve.specs.declared.bare.BareForm.{BareForm}
-use Rattle.ev_resolve.specs.declared.bare.BareForm.TheVariants.{Var, Lit, Node, Of}
-use Rattle.ev_resolve.specs.Bare.{Bare, Bares, bare_var, bare_lit, bare_node, bare_of, bare_none, bare_more}
-use Rattle.ev_resolve.specs.inner.BareView.{bares, bare_of_form, height, heights}
-use Rattle.ev_infer.specs.Equations.{pat_lit, Emitted, AllEmitted, NodeTypes, same_pattern, sort_of, meet, node_types, under, var_emitted, node_emitted, of_emitted, more_emitted, none_emitted, emit, emit_all}
+use Rattle.ev_resolve.specs.Bare.{Bare, Bares, bare_var, bare_lit, bare_node, bare_of}
+use Rattle.ev_resolve.specs.inner.BareView.{bares, height, heights}
+use Rattle.ev_infer.specs.Equations.{pat_lit, Emitted, AllEmitted, NodeTypes, same_pattern, sort_of, meet, node_types, under, var_emitted, node_emitted, of_emitted, more_emitted, emit, emit_all}
 use Rattle.ev_resolve.specs.inner.Signing.{profile_told}
 use Rattle.ev_infer.specs.inner.Walks.{Walk, AllWalk, pats, types_told, walk_of, all_walk_of, walk_told, all_walk_told, when, met_walk, child_walk}
-use Rattle.ev_infer.proofs.PatternSteps.{pat_list-pats, test_is}
+use Rattle.ev_infer.proofs.PatternSteps.{test_is}
 
 -- heights
 pub height_at : (bs : List Bare) (i : ℕ) (b : Bare) → b ≡ get_or bs i b → i < length bs → height b ≤ heights (bares bs)

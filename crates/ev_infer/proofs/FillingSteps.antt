@@ -1,25 +1,24 @@
 -- What the walks that measure and build a term need.
-use Rattle.std.specs.Prelude.{◌≡◌, ℕ, zero, suc, ◌+◌, ◌-◌, ◌<◌, ◌≤◌, max, min, Bool as Boolean, List, [], ◌∷◌, ◌++◌, length, Option, Some, None, refl}
+use Rattle.std.specs.Prelude.{◌≡◌, ℕ, zero, suc, ◌+◌, ◌<◌, ◌≤◌, max, List, [], ◌∷◌, ◌++◌, length, Option, Some, None, refl}
 use Rattle.std.proofs.Common.{ap, sym, ◌∙◌, arith, get_or, drop, append_assoc, subst as transport}
 use Rattle.ev_terms.specs.declared.types.Ty.{Ty, Int, Bool, Prop, Param, Data}
 use Rattle.ev_terms.specs.declared.types.Tys.{Tys, Empty}
 use Rattle.ev_terms.specs.declared.types.Tys.TheVariants.{More}
 use Rattle.ev_terms.specs.declared.types.Sym.{Sym}
 use Rattle.ev_terms.specs.Types.{pow, prod, more, More-more}
-use Rattle.ev_terms.specs.Term.{Term, Terms, node, nil, cons, terms, term_list, terms-term_list}
+use Rattle.ev_terms.specs.Term.{Term, Terms, node, terms, term_list, terms-term_list}
 use Rattle.ev_terms.specs.Measures.{type_size, types_size, type_depth, types_depth}
 use Rattle.ev_typing.specs.Env.{Env, profile}
 use Rattle.ev_typing.specs.Typing.{IsProper}
 use Rattle.ev_typing.proofs.Names.{drop_at, drop_all}
-use Rattle.ev_unify.specs.declared.patterns.Pats.{Pats, Empty as NoPats}
-use Rattle.ev_unify.specs.Patterns.{more_pats, value, values}
+use Rattle.ev_unify.specs.declared.patterns.Pats.{Empty as NoPats}
+use Rattle.ev_unify.specs.Patterns.{values}
 use Rattle.ev_infer.specs.declared.bulks.Bulk.{Bulk}
-use Rattle.ev_infer.specs.declared.filling.Made.{Made}
 use Rattle.ev_resolve.specs.Bare.{Bare, Bares, bare_var, bare_lit, bare_node, bare_of}
-use Rattle.ev_resolve.specs.inner.BareView.{bares, height, heights}
-use Rattle.ev_infer.specs.Equations.{NodeTypes, pattern_of, patterns_of, same_pattern, unknowns, filled, all_filled}
+use Rattle.ev_resolve.specs.inner.BareView.{bares}
+use Rattle.ev_infer.specs.Equations.{patterns_of, same_pattern, unknowns, filled, all_filled}
 use Rattle.ev_infer.specs.inner.Numbers.{params_of, node_numbers, numbered, all_numbered}
-use Rattle.ev_infer.specs.inner.Bulks.{cap, bulk, above, beside, type_bulk, types_bulk, pat_bulk, pats_bulk, term_bulk, terms_bulk}
+use Rattle.ev_infer.specs.inner.Bulks.{bulk, above, beside, type_bulk, types_bulk, pat_bulk, pats_bulk, term_bulk, terms_bulk}
 use Rattle.ev_infer.specs.inner.Filling.{Used, measured, all_measured, types_measured, made, all_made, types_made}
 use Rattle.ev_infer.proofs.Values.{value-same}
 use Rattle.ev_infer.proofs.EmissionSteps.{height_at}

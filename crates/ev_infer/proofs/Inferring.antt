@@ -7,7 +7,7 @@ use Rattle.std.proofs.lemmas.List.Folds.{Any-from_list_any, list_any-from_Any}
 use Rattle.ev_terms.specs.declared.types.Ty.{Ty, Int as IntType, Bool as BoolType, Prop, Param as ParamType, Data as DataType}
 use Rattle.ev_terms.specs.Types.{pow, prod}
 use Rattle.ev_terms.specs.Term.{Term}
-use Rattle.ev_terms.specs.Subst.{type_inst, type_at}
+use Rattle.ev_terms.specs.Substitution.{type_inst, type_at}
 use Rattle.ev_syntax.specs.Raw.{Raw}
 use Rattle.ev_typing.specs.Env.{Env}
 use Rattle.ev_typing.specs.Typing.{IsProper, Typed}
@@ -69,7 +69,7 @@ mutual
   inst_none (prod A B) = Rattle.ev_unify.proofs.Followed.prod_by (inst_none A) (inst_none B)
   inst_none (DataType n As) = ap (DataType n) (insts_none As)
 
-  insts_none : (As : Rattle.ev_terms.specs.declared.types.Tys.Tys) → Rattle.ev_terms.specs.Subst.types_inst (type_at Rattle.ev_terms.specs.declared.types.Tys.Empty) As ≡ As
+  insts_none : (As : Rattle.ev_terms.specs.declared.types.Tys.Tys) → Rattle.ev_terms.specs.Substitution.types_inst (type_at Rattle.ev_terms.specs.declared.types.Tys.Empty) As ≡ As
   insts_none Rattle.ev_terms.specs.declared.types.Tys.Empty = refl
   insts_none (Rattle.ev_terms.specs.Types.more A As) = Rattle.ev_unify.proofs.Followed.more_by (inst_none A) (insts_none As)
 

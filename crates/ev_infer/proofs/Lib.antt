@@ -6,7 +6,7 @@ pub mod ToBare
 pub mod FromBare
 pub mod Inferring
 pub mod Free
-pub mod Mending
+pub mod ImproperTypes
 pub mod Outcomes
 pub mod Rows
 pub mod LawProofs
@@ -15,6 +15,8 @@ pub mod PatternSteps
 pub mod EmissionSteps
 pub mod BulkSteps
 pub mod SolvingSteps
+pub mod Ways
+pub mod Below
 pub mod UnknownSteps
 pub mod FillingSteps
 pub mod AnswerSteps
@@ -25,7 +27,7 @@ pub mod VariableSteps
 pub mod Both
 pub mod Retyped
 pub mod Variables
-pub mod MendedTypes
+pub mod ImproperVariables
 pub mod Annotations
 pub mod Answering
 pub mod Exact

@@ -11,7 +11,7 @@ use Rattle.ev_terms.specs.declared.types.Sym.TheVariants.{User}
 use Rattle.ev_terms.specs.Types.{pow, prod, more, type_list}
 use Rattle.ev_terms.specs.Term.{Term, Terms, var, lit, node, nil, cons}
 use Rattle.ev_terms.specs.Symbols.{binds}
-use Rattle.ev_terms.specs.Subst.{type_at}
+use Rattle.ev_terms.specs.Substitution.{type_at}
 use Rattle.ev_syntax.specs.Marks.{for_all_sign, union_over_word}
 use Rattle.ev_forms.specs.Base as base
 use Rattle.ev_forms.specs.Base.{at_type, leaf, with_one, with_two}

@@ -1,13 +1,15 @@
 -- What the code that makes patterns needs.
-use Rattle.std.specs.Prelude.{◌≡◌, ◌≢◌, ℕ, zero, suc, ◌+◌, ◌-◌, ◌<◌, ◌≤◌, ◌↔◌, ◌==◌, ◌&&◌, Bool as Boolean, true, false, if◌then◌else◌, List, [], ◌∷◌, ◌++◌, Option, Some, None, option_map, slice_get, unwrap_or, length, IsTrue, refl}
-use Rattle.std.proofs.Common.{ap, sym, ◌∙◌, arith, append_assoc, get_or}
+use Rattle.std.specs.Prelude.{◌≡◌, ◌≢◌, ℕ, suc, ◌+◌, ◌<◌, ◌≤◌, ◌↔◌, ◌==◌, ◌&&◌, Bool as Boolean, true, false, if◌then◌else◌, List, [], ◌∷◌, ◌++◌, Option, Some, None, slice_get, unwrap_or, length, IsTrue, refl}
+use Rattle.std.proofs.Common.{ap, sym, ◌∙◌, arith, append_assoc, append-nil, get_or}
 use Rattle.std.proofs.lemmas.Option.{slice_get-get_or, slice_get_past}
 use Rattle.std.proofs.lemmas.Bool.{eqb-true, eq-eqb}
 use Rattle.ev_terms.specs.declared.types.Ty.{Ty, Int, Bool, Prop, Param, Data}
 use Rattle.ev_terms.specs.declared.types.Ty.TheVariants.{Pow, Prod}
-use Rattle.ev_terms.specs.declared.types.Tys.{Tys}
+use Rattle.ev_terms.specs.declared.types.Tys.{Tys, Empty as NoTypes}
 use Rattle.ev_terms.specs.declared.types.Tys.TheVariants.{More}
 use Rattle.ev_terms.specs.Types.{pow, prod, Pow-pow, Prod-prod, More-more}
+use Rattle.ev_terms.proofs.Children.{type_size-Pow, type_size-Prod}
+use Rattle.ev_typing.proofs.Names.{drop_at, drop_all}
 use Rattle.ev_typing.specs.Env.{Env}
 use Rattle.ev_typing.specs.Typing.{IsProper}
 use Rattle.ev_typing.specs.Proper.{is_proper, is_result}
@@ -16,12 +18,10 @@ use Rattle.ev_unify.specs.declared.patterns.Pat.{Pat, Unknown, Param as ParamPat
 use Rattle.ev_unify.specs.declared.patterns.Pat.TheVariants.{Pow as PowPat, Prod as ProdPat}
 use Rattle.ev_unify.specs.declared.patterns.Pats.{Pats, Empty}
 use Rattle.ev_unify.specs.declared.patterns.Pats.TheVariants.{More as MorePats}
-use Rattle.ev_unify.specs.Patterns.{pow_pat, prod_pat, more_pats, pat_list, pat_at, PowPat-pow_pat, ProdPat-prod_pat, MorePats-more_pats}
-use Rattle.ev_infer.specs.declared.sorts.Sort.{Sort}
-use Rattle.ev_infer.specs.declared.sorts.Sort.TheVariants.{Predicate, Expression}
-use Rattle.ev_infer.specs.declared.sorts.NodePats.{NodePats}
+use Rattle.ev_unify.specs.Patterns.{more_pats, pat_list, pat_at, PowPat-pow_pat, ProdPat-prod_pat, MorePats-more_pats}
+use Rattle.ev_infer.specs.declared.sorts.Sort.TheVariants.{Expression}
 use Rattle.ev_infer.specs.Equations.{NodeTypes, pattern_of, patterns_of, same_pattern, sort_of, unknowns, node_types}
-use Rattle.ev_infer.specs.inner.Walks.{pats, types_told}
+use Rattle.ev_infer.specs.inner.Walks.{pats}
 
 pub pattern_of-Pow : (ps : Pats) (a : Ty) → pattern_of ps (Pow a) ≡ PowPat (pattern_of ps a)
 pattern_of-Pow ps a = ap (pattern_of ps) (Pow-pow a) ∙ sym (PowPat-pow_pat (pattern_of ps a))
@@ -32,7 +32,7 @@ pattern_of-Prod ps a b = ap (pattern_of ps) (Prod-prod a b) ∙ sym (ProdPat-pro
 pub patterns_of-More : (ps : Pats) (a : Ty) (rest : Tys) → patterns_of ps (More a rest) ≡ MorePats (pattern_of ps a) (patterns_of ps rest)
 patterns_of-More ps a rest = ap (patterns_of ps) (More-more a rest) ∙ sym (MorePats-more_pats (pattern_of ps a) (patterns_of ps rest))
 
-pub ruleset walk = (pattern_of-Pow, pattern_of-Prod, patterns_of-More)
+pub ruleset walk = (pattern_of-Pow, pattern_of-Prod, type_size-Pow, type_size-Prod)
 
 pub pat_list-pats : (ps : List Pat) → pat_list (pats ps) ≡ ps
 pat_list-pats [] = refl
@@ -41,6 +41,28 @@ pat_list-pats (p ∷ ps) = ap (λ qs. p ∷ qs) (pat_list-pats ps)
 pub pats-pat_list : (ps : Pats) → pats (pat_list ps) ≡ ps
 pats-pat_list Empty = refl
 pats-pat_list (more_pats p ps) = ap (more_pats p) (pats-pat_list ps)
+
+-- one more type of a list
+pub made_step : (ps : Pats) (old new : List Pat) (all : List Pat) (left rest got : Tys) (a a' : Ty) (p : Pat) → left ≡ More a rest → a' ≡ a → got ≡ rest → p ≡ pattern_of ps a' → new ≡ old ++ p ∷ []
+    → old ++ pat_list (patterns_of ps left) ≡ all → new ++ pat_list (patterns_of ps got) ≡ all
+made_step ps old new all left rest got a a' p e f g q n h =
+    ap (λ l. l ++ pat_list (patterns_of ps got)) n ∙ append_assoc old (p ∷ []) (pat_list (patterns_of ps got))
+    ∙ ap (λ x. old ++ x ∷ pat_list (patterns_of ps got)) (q ∙ ap (pattern_of ps) f) ∙ ap (λ r. old ++ pattern_of ps a ∷ pat_list (patterns_of ps r)) g
+    ∙ ap (λ l. old ++ pat_list l) (sym (ap (patterns_of ps) e ∙ ap (patterns_of ps) (More-more a rest))) ∙ h
+
+pub made_end : (ps : Pats) (made : List Pat) (left list : Tys) → left ≡ NoTypes → made ++ pat_list (patterns_of ps left) ≡ pat_list (patterns_of ps list) → pats made ≡ patterns_of ps list
+made_end ps made left list e h = ap pats (sym (append-nil made) ∙ ap (λ l. made ++ pat_list (patterns_of ps l)) (sym e) ∙ h) ∙ pats-pat_list (patterns_of ps list)
+
+-- one more pattern at the front of a list
+pub list_step : (old new start : List Pat) (last a : Pat) (list rest got : Pats) → old ≡ new ++ last ∷ [] → got ≡ MorePats a rest → a ≡ last → rest ≡ list → old ++ pat_list list ≡ start → new ++ pat_list got ≡ start
+list_step old new start last a list rest got o e f g h =
+    ap (λ l. new ++ pat_list l) (e ∙ MorePats-more_pats a rest) ∙ ap (λ x. new ++ x ∷ pat_list rest) f ∙ ap (λ r. new ++ last ∷ pat_list r) g
+    ∙ sym (append_assoc new (last ∷ []) (pat_list list)) ∙ ap (λ l. l ++ pat_list list) (sym o) ∙ h
+
+pub list_end : (left start : List Pat) (list : Pats) → left ≡ [] → left ++ pat_list list ≡ start → list ≡ pats start
+list_end left start list e h = sym (pats-pat_list list) ∙ ap pats (ap (λ l. l ++ pat_list list) (sym e) ∙ h)
+
+pub ruleset lists = (drop_at, drop_all, append_assoc)
 
 pub param_inside : (ps : List Pat) (i : ℕ) (p : Pat) → i < length ps → p ≡ get_or ps i p → p ≡ pat_at (pats ps) i
 param_inside ps i p h e =

@@ -2,13 +2,11 @@
 use Rattle.std.specs.Prelude.{◌≡◌, ℕ, Bool as Boolean, true, false, List, map, reverse, Option, Some, None, option_and_then, if◌then◌else◌, refl}
 use Rattle.std.proofs.Common.{ap, sym, ◌∙◌, subst as transport}
 use Rattle.ev_terms.specs.declared.types.Ty.{Ty}
-use Rattle.ev_terms.specs.declared.extents.Extent.{Extent}
 use Rattle.ev_syntax.specs.Raw.{Raw}
 use Rattle.ev_typing.specs.Env.{Env}
 use Rattle.ev_typing.specs.Proper.{HasProperUserSignatures}
 use Rattle.ev_unify.specs.Solutions.{HasSolution}
 use Rattle.ev_resolve.specs.Reading.{Variable}
-use Rattle.ev_infer.specs.Annotates.{IsPast}
 use Rattle.ev_resolve.specs.Bare.{Bare}
 use Rattle.ev_infer.specs.Equations.{Emitted, filled, emit}
 use Rattle.ev_resolve.specs.Resolve.{known_of, forget, resolve}

@@ -9,7 +9,7 @@ use Rattle.ev_terms.specs.declared.types.Sym.{Sym}
 use Rattle.ev_terms.specs.Types.{type_list}
 use Rattle.ev_terms.specs.Term.{Term, Terms, var, lit, node, nil, cons}
 use Rattle.ev_terms.specs.Symbols.{binds}
-use Rattle.ev_terms.specs.Subst.{type_inst, type_at}
+use Rattle.ev_terms.specs.Substitution.{type_inst, type_at}
 use Rattle.ev_typing.specs.Profiles.{Profile}
 use Rattle.ev_typing.specs.Env.{Env, profile}
 use Rattle.ev_typing.specs.Typing.{AreProper, inside, var_type, Typed, AreTyped}

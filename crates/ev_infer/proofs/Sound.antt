@@ -8,7 +8,7 @@ use Rattle.ev_terms.specs.declared.types.Tys.{Tys}
 use Rattle.ev_terms.specs.declared.types.Sym.{Sym}
 use Rattle.ev_terms.specs.Types.{type_list}
 use Rattle.ev_terms.specs.Term.{Term, Terms}
-use Rattle.ev_terms.specs.Subst.{type_inst, type_at}
+use Rattle.ev_terms.specs.Substitution.{type_inst, type_at}
 use Rattle.ev_typing.specs.Profiles.{Profile}
 use Rattle.ev_typing.specs.Env.{Env, profile}
 use Rattle.ev_typing.specs.Typing.{IsProper, AreProper, inside, Typed, AreTyped, IsTypedNode}

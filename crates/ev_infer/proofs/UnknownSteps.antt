@@ -1,14 +1,13 @@
 -- What the walk over the unknowns of a solution needs: its steps over marks and visits.
-use Rattle.std.specs.Prelude.{◌≡◌, ◌≢◌, ℕ, zero, suc, ◌+◌, ◌<◌, ◌≤◌, ◌||◌, ◌==◌, ◌⊎◌, max, min, ⊤, Bool as Boolean, true, false, if◌then◌else◌, List, [], ◌∷◌, ◌++◌, length, take, Option, Some, None, slice_get, slice_index_or, slice_set, refl}
+use Rattle.std.specs.Prelude.{◌≡◌, ◌≢◌, ℕ, zero, suc, ◌+◌, ◌<◌, ◌≤◌, ◌||◌, ◌==◌, ◌⊎◌, max, Bool as Boolean, true, false, if◌then◌else◌, List, [], ◌∷◌, ◌++◌, length, take, Some, None, slice_get, refl}
 use Rattle.std.proofs.Common.{ap, sym, ◌∙◌, arith, get_or, set, inl, inr, drop, subst as transport}
-use Rattle.std.proofs.lemmas.Bool.{eqb-true, eq-eqb, cases_eq}
+use Rattle.std.proofs.lemmas.Bool.{eqb-true, eq-eqb, cases_eq, cases_lt}
 use Rattle.std.proofs.lemmas.List.{get_or-set_same, get_or-set_other}
 use Rattle.std.proofs.Math.ListN.{length-set}
 use Rattle.std.proofs.lemmas.Option.{slice_get-get_or}
 use Rattle.ev_terms.specs.declared.extents.Extent.{Extent}
 use Rattle.ev_terms.specs.declared.types.Ty.{Ty, Int as IntType, Data as DataType}
-use Rattle.ev_terms.specs.declared.types.Tys.{Tys}
-use Rattle.ev_terms.specs.Types.{pow, prod, more}
+use Rattle.ev_terms.specs.Types.{pow}
 use Rattle.ev_terms.specs.Measures.{type_size, types_size, type_depth, types_depth}
 use Rattle.ev_typing.proofs.Names.{drop_at, drop_all}
 use Rattle.ev_unify.specs.declared.patterns.Pat.{Pat, Int, Bool, Param, Data, Unknown}
@@ -16,16 +15,15 @@ use Rattle.ev_unify.specs.declared.patterns.Pats.{Pats, Empty}
 use Rattle.ev_unify.specs.declared.patterns.Bind.{Bind}
 use Rattle.ev_unify.specs.Patterns.{pow_pat, prod_pat, more_pats, value, values, has_unknown, have_unknown, followed, all_followed}
 use Rattle.ev_unify.specs.Solutions.{bound_to, of_bound}
-use Rattle.ev_unify.proofs.Followed.{prod_by, more_by, through, value_through, values_through}
+use Rattle.ev_unify.proofs.Followed.{prod_by, more_by, value_through}
 use Rattle.ev_infer.specs.declared.bulks.Bulk.{Bulk}
 use Rattle.ev_infer.specs.declared.solving.Mark.{Mark}
 use Rattle.ev_infer.specs.declared.solving.Mark.TheVariants.{Free, Bound, Open, Done}
 use Rattle.ev_infer.specs.declared.solving.Visit.{Visit}
-use Rattle.ev_infer.specs.declared.solving.Scan.{Scan}
 use Rattle.ev_infer.specs.declared.solving.Scan.TheVariants as scan
 use Rattle.ev_infer.specs.Inference.{is_open, are_open}
-use Rattle.ev_infer.specs.inner.Bulks.{cap, bulk, above, beside, type_bulk, types_bulk, pat_bulk, pats_bulk, bulk_at, type_at_unknown, IsWithin}
-use Rattle.ev_infer.specs.inner.Solving.{IsEnded, ended_type, IsSolved, IsLeftFree, mark, IsBoundBy, IsMark, AreMarks, AreVisits, count_bound, labor, IsScanOf, IsScan, IsFirstMark, AreSolved, LeavesFree, IsBoundTo, AreKnown}
+use Rattle.ev_infer.specs.inner.Bulks.{bulk, above, beside, type_bulk, types_bulk, pat_bulk, pats_bulk, bulk_at, type_at_unknown, IsWithin}
+use Rattle.ev_infer.specs.inner.Solving.{IsEnded, ended_type, IsSolved, IsLeftFree, mark, IsBoundBy, IsMark, AreMarks, AreVisits, AreOrdered, NoneOpen, count_bound, labor, IsScan, IsFirstMark, AreSolved, IsBoundTo, AreKnown}
 
 -- Open and closed patterns, followed.
 or_left : (a b : Boolean) → a ≡ true → (a || b) ≡ true
@@ -355,6 +353,41 @@ first_step S i j count M M' b t n ij e l q lt f h u k =
           transport (IsFirstMark S (drop j S) u) (sym (mark_other M t u (Bound j) w))
           (first_kept S (drop i S) (drop j S) u (mark M u) (ap (λ R. bound_to R u) d' ∙ first_other (drop i S) u b (λ z. w (sym z ∙ sym q))) (h u k))
     ])
+
+-- an unknown that some bind has
+somewhere : (S : List Bind) (u i : ℕ) (b : Bind) → slice_get S i ≡ Some b → b.unknown ≡ u → (p : Pat) × (bound_to S u ≡ Some p)
+somewhere [] u i b e q = cc
+somewhere (c ∷ R) u zero b e q = let r : c ≡ b = cc in (c.value, first_same (c ∷ R) R u c (ap (λ (x : Bind). x.unknown) r ∙ q))
+somewhere (c ∷ R) u (suc i) b e q = go (c.unknown == u) refl (somewhere R u i b e q)
+  where
+    go : (x : Boolean) → (c.unknown == u) ≡ x → (p : Pat) × (bound_to R u ≡ Some p) → (p : Pat) × (bound_to (c ∷ R) u ≡ Some p)
+    go true f h = (c.value, ap (λ y. if y then Some c.value else bound_to R u) f)
+    go false f (p, h) = (p, ap (λ y. if y then Some c.value else bound_to R u) f ∙ h)
+
+pub bind_below : (S : List Bind) (count j : ℕ) (b : Bind) → AreOrdered S count → b ≡ get_or S j b → j < length S → b.unknown < count
+bind_below S count j b o e l =
+    let (p, q) = somewhere S b.unknown j b (slice_get-get_or S j b l ∙ ap (λ x. Some x) (sym e)) refl in
+    o.bound b.unknown p q
+
+pub ordered_by : (S : List Bind) (m n : ℕ) → n ≡ m → AreOrdered S m → AreOrdered S n
+ordered_by S m n e h = transport (AreOrdered S) (sym e) h
+
+first_closed : (S R : List Bind) (u : ℕ) (m : Mark) → IsFirstMark S R u m → m ≢ Open
+first_closed S R u Free h e = let q : Free ≡ Open = e in absurd (cc)
+first_closed S R u (Bound i) h e = let q : Bound i ≡ Open = e in absurd (cc)
+first_closed S R u Open h e = h
+first_closed S R u Done h e = h
+
+pub first_ended : (S : List Bind) (M : List Mark) → ((u : ℕ) → u < length M → IsFirstMark S S u (mark M u)) → NoneOpen M
+first_ended S M h u e = elim (cases_lt u (length M)) as (λ _. ⊥) [
+  | inl l ↦ first_closed S S u (mark M u) (h u l) e
+  | inr g ↦ let q : Free ≡ Open = sym (past M u (omega (arith, g))) ∙ e in absurd (cc)
+]
+  where
+    past : (N : List Mark) (v : ℕ) → length N ≤ v → mark N v ≡ Free
+    past [] v h = refl
+    past (m ∷ ms) zero h = absurd (omega (arith, h))
+    past (m ∷ ms) (suc v) h = past ms v (omega arith)
 
 -- from the first marks to those of the walk
 mark_from : (S : List Bind) (limit : Extent) (u : ℕ) (m : Mark) (b : Bulk) (A : Ty) → IsFirstMark S S u m → IsMark S limit u m b A

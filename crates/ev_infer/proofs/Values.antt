@@ -9,7 +9,7 @@ use Rattle.ev_terms.specs.declared.types.Tys.{Tys, Empty as NoTypes}
 use Rattle.ev_terms.specs.declared.types.Sym.{Sym}
 use Rattle.ev_terms.specs.Types.{pow, prod, more, type_list}
 use Rattle.ev_terms.specs.Symbols.{binds}
-use Rattle.ev_terms.specs.Subst.{type_inst, types_inst, type_at}
+use Rattle.ev_terms.specs.Substitution.{type_inst, types_inst, type_at}
 use Rattle.ev_typing.specs.Env.{Env}
 use Rattle.ev_typing.specs.Typing.{IsProper, AreProper, inside, var_type}
 use Rattle.ev_typing.specs.Proper.{IsResult}

@@ -1,9 +1,9 @@
 -- The annotations of a raw tree, and the answers of inference.
-use Rattle.std.specs.Prelude.{◌≡◌, ◌≢◌, ℕ, ◌<◌, ◌⊎◌, true, false, not, List, map, reverse, Option, IfSome, Any}
+use Rattle.std.specs.Prelude.{◌≡◌, ◌≢◌, ℕ, ◌<◌, ◌⊎◌, true, false, List, map, reverse, Option, IfSome, Any}
 use Rattle.ev_terms.specs.declared.types.Ty.{Ty}
 use Rattle.ev_terms.specs.Term.{Term}
 use Rattle.ev_terms.specs.Measures.{size, depth}
-use Rattle.ev_syntax.specs.Raw.{Raw, none, one}
+use Rattle.ev_syntax.specs.Raw.{Raw}
 use Rattle.ev_resolve.specs.Reading.{Known, Variable, context_type, Gives}
 use Rattle.ev_resolve.specs.UsedNames.{is_formula_name, used_names, binder_names, variable_names}
 

@@ -5,5 +5,5 @@ pub mod Solving
 pub mod Filling
 pub mod Answering
 pub mod Marked
-pub mod Mended
+pub mod Improper
 pub mod Variables

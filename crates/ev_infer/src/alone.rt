@@ -4,9 +4,10 @@ ghost use Rattle.std.specs.Option.{option_copied};
 ghost use Rattle.ev_infer.specs.inner.Variables.{is_name, IsVariable, FitsAsked, IsVariableAnswer};
 
 use crate::faults::InferFault;
+use crate::filling::variable;
 use ev_resolve::{Bare, BareForm};
-use ev_syntax::{Raw, RawForm};
-use ev_terms::{Extent, Same, Tree, Ty, make_var};
+use ev_syntax::{FormulaForm, Raw};
+use ev_terms::{Extent, Same, Tree, Ty};
 use std::alloc::Global;
 
 /// Whether a raw tree is a name without arguments, or that with types that it is said to have.
@@ -15,9 +16,9 @@ fn is_name(raw: &Raw) -> bool
     ensures { result ≡ is_name raw.now }
 {
     match raw.form() {
-        RawForm::Call(_, args) => args.len() == 0,
-        RawForm::OfType(e, _) => is_name(e),
-        RawForm::Quantified(_, binders, e) => binders.len() == 0 && is_name(e),
+        FormulaForm::Call(_, args) => args.len() == 0,
+        FormulaForm::OfType(e, _) => is_name(e),
+        FormulaForm::Quantified(_, binders, e) => binders.len() == 0 && is_name(e),
         _ => false,
     }
 }
@@ -46,12 +47,12 @@ pub fn variable_answer(
     if limit.size < 1 || limit.depth < 1 {
         return Err(InferFault::TooLarge);
     }
-    Ok(make_var(alloc, i)?)
+    Ok(variable(alloc, i)?)
 }
 
 /// The variable, where each type that it is said to have is its own.
 #[tactic(auto, using(crate::proofs::VariableSteps::variables))]
-fn variable_of(types: &[Ty], bare: &Bare) -> Option<u32>
+fn variable_of(types: &[Ty], bare: &Bare) -> Option<usize>
     ensures found { IfSome result (λ i. IsVariable bare.now types.now i) }
     ensures none { IfNone result ((i : ℕ) → ¬ IsVariable bare.now types.now i) }
 {
@@ -71,10 +72,9 @@ fn variable_of(types: &[Ty], bare: &Bare) -> Option<u32>
 
 /// Whether the variable has a type, and it is the one that is asked, where one is.
 #[tactic(auto, using(crate::proofs::VariableSteps::types))]
-fn has_type(types: &[Ty], i: u32, asked: Option<&Ty>) -> bool
+fn has_type(types: &[Ty], i: usize, asked: Option<&Ty>) -> bool
     ensures { IsTrue result ↔ FitsAsked types.now i (option_copied asked.entry) }
 {
-    let i = i as usize;
     if i >= types.len() {
         return false;
     }

@@ -1,5 +1,7 @@
 //! The annotation of a bare term.
-ghost use Rattle.std.specs.Prelude.{◌≡◌, [], option_map, IfOk, IfErr};
+ghost use Rattle.std.specs.Prelude.{◌≡◌, [], map, option_map, IfOk, IfErr};
+ghost use Rattle.ev_infer.specs.Equations.{same_pattern};
+ghost use Rattle.ev_infer.specs.inner.Solving.{UseBelow};
 ghost use Rattle.std.specs.Option.{option_copied};
 ghost use Rattle.ev_infer.specs.Inference.{asked, bare_equations};
 ghost use Rattle.ev_infer.specs.inner.Walks.{walk_of};
@@ -9,7 +11,7 @@ use crate::bulks::is_within;
 use crate::emission::emit;
 use crate::faults::InferFault;
 use crate::filling::{build, measure};
-use crate::patterns::{is_result, meet, sort_of};
+use crate::patterns::{is_result, meet, same_patterns, sort_of};
 use crate::solving::Table;
 use crate::sorts::{Sort, Walked};
 use crate::unknowns::solve_all;
@@ -26,20 +28,21 @@ pub struct Equations {
     pub next: u128,
 }
 
-/// The only annotation of a bare term in a context, whose first pattern is that of the outermost variable, at the type that is asked,
-/// where one is. Near linear in the equations and in the term.
+/// The only annotation of a bare term where variables of these types stand, the outermost first, at the type that is asked, where one
+/// is. The walk over the term copies no type, and the equations are solved in near linear time.
 pub fn annotate(
     alloc: Global,
     env: &Env,
-    context: &mut Vec<Pat>,
+    types: &[Ty],
     bare: &Bare,
     expected: Option<&Ty>,
     limit: &Extent,
 ) -> Result<Tree, InferFault>
-    ensures given { IfOk result (IsGiven (bare_equations env.now context.old.items (option_copied expected.entry) bare.now) limit.now) }
-    ensures fault { IfErr result (OnFault (bare_equations env.now context.old.items (option_copied expected.entry) bare.now) limit.now) }
+    ensures given { IfOk result (IsGiven (bare_equations env.now (map same_pattern types.now) (option_copied expected.entry) bare.now) limit.now) }
+    ensures fault { IfErr result (OnFault (bare_equations env.now (map same_pattern types.now) (option_copied expected.entry) bare.now) limit.now) }
 {
-    let Some(equations) = equations_of(alloc, env, context, bare, expected)? else {
+    let mut context = same_patterns(alloc, types)?;
+    let Some(equations) = equations_of(alloc, env, &mut context, bare, expected)? else {
         return Err(InferFault::IllTyped)
     };
     let table = solve(alloc, &equations, limit)?;
@@ -94,8 +97,10 @@ fn with_type(
     }))
 }
 
-/// The types of the unknowns.
+/// The types of the unknowns. A table has no room for more of them than there are indices.
+#[tactic(auto, using(crate::proofs::Below::solutions))]
 fn solve(alloc: Global, equations: &Equations, limit: &Extent) -> Result<Table, InferFault>
+    requires { UseBelow equations.now.next equations.now.pairs }
     ensures solved { IfOk result (IsSolvedTable equations.now.pairs limit.now equations.now.next) }
     ensures fault { IfErr result (OnSolveFault equations.now.pairs equations.now.next) }
 {

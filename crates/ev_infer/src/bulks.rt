@@ -62,10 +62,13 @@ pub(crate) fn type_bulk(ty: &Ty) -> Bulk
 fn types_bulk(types: &Tys) -> Bulk
     ensures { result ≡ types_bulk types.now }
 {
-    match types {
-        Tys::Empty => NOTHING,
-        Tys::More(a, rest) => beside(type_bulk(a.get()), types_bulk(rest.get())),
+    let mut all = NOTHING;
+    let mut left = types;
+    while let Tys::More(a, rest) = left {
+        all = beside(all, type_bulk(a.get()));
+        left = rest.get();
     }
+    all
 }
 
 /// Of a pattern, from the table of its unknowns. Linear in the pattern.
@@ -88,10 +91,13 @@ pub(crate) fn pat_bulk(pat: &Pat, bulks: &[Bulk]) -> Bulk
 fn pats_bulk(list: &Pats, bulks: &[Bulk]) -> Bulk
     ensures { result ≡ pats_bulk (bulk_at bulks.now) list.now }
 {
-    match list {
-        Pats::Empty => NOTHING,
-        Pats::More(a, rest) => beside(pat_bulk(a.get(), bulks), pats_bulk(rest.get(), bulks)),
+    let mut all = NOTHING;
+    let mut left = list;
+    while let Pats::More(a, rest) = left {
+        all = beside(all, pat_bulk(a.get(), bulks));
+        left = rest.get();
     }
+    all
 }
 
 #[tactic(auto, using(crate::proofs::BulkSteps::unknowns))]

@@ -52,7 +52,7 @@ fn emit_variable(
     alloc: Global,
     _env: &Env,
     context: &[Pat],
-    i: u32,
+    i: usize,
     next: u128,
     _pairs: &PatPairs,
 ) -> Result<Option<Walked>, NoMemory>
@@ -68,10 +68,9 @@ fn emit_variable(
 }
 
 #[tactic(auto, using(crate::proofs::EmissionSteps::variables))]
-fn variable_pattern(context: &[Pat], i: u32) -> Option<&Pat>
+fn variable_pattern(context: &[Pat], i: usize) -> Option<&Pat>
     ensures { option_copied result ≡ slice_get (reverse context.now) i }
 {
-    let i = i as usize;
     if i < context.len() {
         Some(&context[context.len() - 1 - i])
     } else {

@@ -1,6 +1,6 @@
 //! The term of a bare one, once its types are known.
 ghost use Rattle.std.specs.Prelude.{◌≡◌, Some, None, IfOk};
-ghost use Rattle.ev_terms.specs.Term.{lit};
+ghost use Rattle.ev_terms.specs.Term.{var, lit};
 ghost use Rattle.ev_typing.specs.Env.{profile};
 ghost use Rattle.ev_resolve.specs.inner.BareView.{bares};
 ghost use Rattle.ev_infer.specs.inner.Numbers.{params_of, node_numbers};
@@ -159,7 +159,7 @@ pub(crate) fn build(
 {
     match bare.form() {
         BareForm::Var(i) => Ok(Made {
-            tree: make_var(alloc, *i)?,
+            tree: variable(alloc, *i)?,
             next,
         }),
         BareForm::Lit(n) => Ok(Made {
@@ -176,6 +176,16 @@ pub(crate) fn build(
             })
         }
         BareForm::Of(bare, _) => build(alloc, env, &**bare, next, types),
+    }
+}
+
+/// A variable. There are fewer than 2^32, so no other is met.
+pub(crate) fn variable(alloc: Global, i: usize) -> Result<Tree, NoMemory>
+    ensures { IfOk result (λ t. t ≡ var i) }
+{
+    match u32::try_from(i) {
+        Ok(i) => make_var(alloc, i),
+        Err(_) => Err(NoMemory),
     }
 }
 

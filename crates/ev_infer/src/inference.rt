@@ -12,14 +12,14 @@ use crate::annotation::annotate;
 use crate::contexts::{context_of, marks_of, names_of, scope_of, types_of};
 use crate::faults::InferFault;
 use crate::marked::uses_marked;
-use ev_resolve::{Bare, has_taken_binder, has_unknown_name, resolve};
+use ev_resolve::{Bare, FormulaNames, has_taken_binder, has_unknown_name, resolve};
 use ev_syntax::Raw;
 use ev_terms::{Extent, Names, Tree, Ty};
 use ev_typing::{Env, Var, Vars};
 use std::alloc::Global;
 
 /// The only annotation of a raw tree where these variables stand, the outermost first, at the type that is asked, where one is.
-/// Linear in the raw tree but for the look-up of names, and near linear in the types of the annotation.
+/// Linear in the raw tree, and near linear in the types of the annotation.
 pub fn infer(
     alloc: Global,
     env: &Env,
@@ -52,32 +52,32 @@ fn answer(
 ) -> Result<Tree, InferFault>
     ensures { IsAnswer env.now params.now vars.now raw.now (option_copied expected.entry) limit.now result }
 {
-    let mut names = names_of(alloc, vars)?;
-    if has_unknown_name(alloc, env, params, &mut names, raw)? {
+    let known = FormulaNames::new(alloc, env, params)?;
+    let names = names_of(alloc, vars)?;
+    if has_unknown_name(alloc, &known, names.as_slice(), raw)? {
         return Err(InferFault::Unknown);
     }
-    if has_taken_binder(env, params, raw) {
+    if has_taken_binder(&known, raw) {
         return Err(InferFault::Taken);
     }
-    annotation(alloc, env, params, vars, raw, expected, limit)
+    annotation(alloc, &known, vars, raw, expected, limit)
 }
 
 /// The same where no name is unknown or taken.
 fn annotation(
     alloc: Global,
-    env: &Env,
-    params: &Names,
+    known: &FormulaNames<'_>,
     vars: &[Var],
     raw: &Raw,
     expected: Option<&Ty>,
     limit: &Extent,
 ) -> Result<Tree, InferFault>
-    requires free { takes_name env.now params.now raw.now ≡ false }
-    ensures { IsFound env.now params.now vars.now raw.now (option_copied expected.entry) limit.now result }
+    requires free { takes_name known.now.1 known.now.0 raw.now ≡ false }
+    ensures { IsFound known.now.1 known.now.0 vars.now raw.now (option_copied expected.entry) limit.now result }
 {
-    let _opened = env.count();
-    let mut scope = scope_of(alloc, vars)?;
-    let Some(bare) = resolve(alloc, env, params, raw, &mut scope)? else {
+    let env = known.env();
+    let scope = scope_of(alloc, vars)?;
+    let Some(bare) = resolve(alloc, known, raw, scope)? else {
         return Err(InferFault::IllTyped)
     };
     of_bare(alloc, env, vars, raw, &bare, expected, limit)
@@ -100,8 +100,8 @@ fn of_bare(
     if uses_marked(bare, &mut marks)? {
         return alone(alloc, vars, raw, bare, expected, limit);
     }
-    let mut context = context_of(alloc, env, vars)?;
-    annotate(alloc, env, &mut context, bare, expected, limit)
+    let context = context_of(alloc, env, vars)?;
+    annotate(alloc, env, context.as_slice(), bare, expected, limit)
 }
 
 /// The answer where only a variable that stands alone is an annotation.

@@ -21,4 +21,3 @@ pub use annotation::{Equations, annotate};
 pub use faults::InferFault;
 pub use inference::infer;
 pub use laws::{answer_laws, inference_laws};
-pub use patterns::same_pattern;

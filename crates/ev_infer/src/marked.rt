@@ -54,10 +54,9 @@ fn use_marked(children: &[Bare], marks: &mut Vec<bool>) -> Result<bool, NoMemory
 }
 
 #[tactic(auto, using(crate::proofs::Marks::places))]
-fn is_marked(marks: &[bool], i: u32) -> bool
+fn is_marked(marks: &[bool], i: usize) -> bool
     ensures { result ≡ is_marked (reverse marks.now) i }
 {
-    let i = i as usize;
     if i < marks.len() {
         marks[marks.len() - 1 - i]
     } else {

@@ -1,5 +1,5 @@
 //! Types as patterns, and the unknowns of a node.
-ghost use Rattle.std.specs.Prelude.{◌≡◌, ◌+◌, ◌==◌, ◌&&◌, Some, None, option_map, IfOk, OnOk, ◌++◌};
+ghost use Rattle.std.specs.Prelude.{◌≡◌, ◌+◌, ◌==◌, ◌&&◌, Some, None, map, option_map, IfOk, OnOk, ◌++◌};
 ghost use Rattle.std.specs.Option.{option_copied};
 ghost use Rattle.ev_terms.specs.declared.types.Ty.{Prop};
 ghost use Rattle.ev_unify.specs.Patterns.{pat_at};
@@ -43,14 +43,26 @@ pub(crate) fn pattern_of(alloc: Global, ty: &Ty, types: &[Pat]) -> Result<Pat, N
 fn patterns_of(alloc: Global, list: &Tys, types: &[Pat]) -> Result<Pats, NoMemory>
     ensures { IfOk result (λ ps. ps ≡ patterns_of (pats types.now) list.now) }
 {
-    match list {
-        Tys::Empty => Ok(Pats::Empty),
-        Tys::More(a, rest) => {
-            let a = Shared::new(alloc, pattern_of(alloc, a.get(), types)?)?;
-            let rest = Shared::new(alloc, patterns_of(alloc, rest.get(), types)?)?;
-            Ok(Pats::More(a, rest))
-        }
+    let mut patterns = Vec::new(alloc);
+    let mut left = list;
+    while let Tys::More(a, rest) = left {
+        patterns.push(pattern_of(alloc, a.get(), types)?)?;
+        left = rest.get();
     }
+    listed(alloc, patterns)
+}
+
+/// The patterns as a list, made from its end.
+#[tactic(auto, using(crate::proofs::PatternSteps::lists))]
+fn listed(alloc: Global, mut patterns: Vec<Pat>) -> Result<Pats, NoMemory>
+    ensures { IfOk result (λ ps. ps ≡ pats patterns.items) }
+{
+    let mut list = Pats::Empty;
+    while let Some(last) = patterns.pop() {
+        let rest = Shared::new(alloc, list)?;
+        list = Pats::More(Shared::new(alloc, last)?, rest);
+    }
+    Ok(list)
 }
 
 #[tactic(auto, using(crate::proofs::PatternSteps::params))]
@@ -64,10 +76,22 @@ fn param_of(alloc: Global, types: &[Pat], i: u32) -> Result<Pat, NoMemory>
 }
 
 /// The type as it stands, as a pattern. Linear in the type.
-pub fn same_pattern(alloc: Global, ty: &Ty) -> Result<Pat, NoMemory>
+pub(crate) fn same_pattern(alloc: Global, ty: &Ty) -> Result<Pat, NoMemory>
     ensures { IfOk result (λ p. p ≡ same_pattern ty.now) }
 {
     pattern_of(alloc, ty, &[])
+}
+
+/// Types as they stand, as patterns.
+#[tactic(auto, using(crate::proofs::PatternSteps::lists))]
+pub(crate) fn same_patterns(alloc: Global, types: &[Ty]) -> Result<Vec<Pat>, NoMemory>
+    ensures { IfOk result (λ ps. ps.items ≡ map same_pattern types.now) }
+{
+    let mut patterns = Vec::new(alloc);
+    for ty in types {
+        patterns.push(same_pattern(alloc, ty)?)?;
+    }
+    Ok(patterns)
 }
 
 /// What a child or a node of this type is, these patterns put in for the parameters.
@@ -113,7 +137,7 @@ pub(crate) fn meet(
     }
 }
 
-/// So many unknowns, from one on. They take linear time.
+/// So many unknowns, from one on. Unknowns past the numbers fit no table.
 #[tactic(auto, using(crate::proofs::PatternSteps::counting))]
 fn new_unknowns(alloc: Global, next: u128, count: u32) -> Result<NodePats, NoMemory>
     ensures { IfOk result (λ n. types_told n ≡ record { types = unknowns next count; next = next + count }) }

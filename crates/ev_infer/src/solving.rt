@@ -6,6 +6,7 @@ ghost use Rattle.ev_unify.specs.Patterns.{value, values, has_unknown, have_unkno
 ghost use Rattle.ev_unify.specs.declared.patterns.Pat.{Unknown};
 ghost use Rattle.ev_infer.specs.inner.Bulks.{pat_bulk, bulk_at, type_at_unknown};
 ghost use Rattle.ev_infer.specs.inner.Solving.{IsScan, IsScanAll};
+ghost use Rattle.ev_typing.specs.TypeLists.{types as type_row};
 
 use crate::bulks::{Bulk, NOTHING, is_within, pat_bulk};
 use ev_terms::{Extent, NoMemory, Shared, TryCopy, Ty, Tys};
@@ -29,14 +30,12 @@ pub(crate) struct Visit {
     pub(crate) bind: usize,
 }
 
-/// What a pattern's unknowns are: some is free; this one is bound and no walk has come to it; the walk is in some, or some is in no
-/// table; or all are known.
+/// What a pattern's unknowns are: some is free; this one is bound and no walk has come to it; or walks have come to all.
 #[derive(Clone, Copy, Drop)]
 pub(crate) enum Scan {
     Free,
     Next(Visit),
-    Odd,
-    Solved,
+    Visited,
 }
 
 /// The types of unknowns, and how large they are. Types that are too large are not built.
@@ -52,10 +51,10 @@ pub(crate) fn look_at(pat: &Pat, marks: &[Mark]) -> Scan
     ensures { IsScan pat.now marks.now result }
 {
     match pat {
-        Pat::Int | Pat::Bool | Pat::Param(_) => Scan::Solved,
+        Pat::Int | Pat::Bool | Pat::Param(_) => Scan::Visited,
         Pat::Pow(a) => look_at(a.get(), marks),
         Pat::Prod(a, b) => match look_at(a.get(), marks) {
-            Scan::Solved => look_at(b.get(), marks),
+            Scan::Visited => look_at(b.get(), marks),
             found => found,
         },
         Pat::Data(_, list) => look_at_all(list, marks),
@@ -68,13 +67,14 @@ pub(crate) fn look_at(pat: &Pat, marks: &[Mark]) -> Scan
 fn look_at_all(list: &Pats, marks: &[Mark]) -> Scan
     ensures { IsScanAll list.now marks.now result }
 {
-    match list {
-        Pats::Empty => Scan::Solved,
-        Pats::More(a, rest) => match look_at(a.get(), marks) {
-            Scan::Solved => look_at_all(rest.get(), marks),
-            found => found,
-        },
+    let mut left = list;
+    while let Pats::More(a, rest) = left {
+        match look_at(a.get(), marks) {
+            Scan::Visited => left = rest.get(),
+            found => return found,
+        }
     }
+    Scan::Visited
 }
 
 #[tactic(auto, using(crate::proofs::SolvingSteps::scanning))]
@@ -82,14 +82,13 @@ fn look_at_unknown(unknown: u128, marks: &[Mark]) -> Scan
     ensures { IsScan (Unknown unknown) marks.now result }
 {
     if unknown >= marks.len() as u128 {
-        return Scan::Odd;
+        return Scan::Visited;
     }
     let unknown = unknown as usize;
     match marks[unknown] {
         Mark::Free => Scan::Free,
         Mark::Bound(bind) => Scan::Next(Visit { unknown, bind }),
-        Mark::Open => Scan::Odd,
-        Mark::Done => Scan::Solved,
+        Mark::Open | Mark::Done => Scan::Visited,
     }
 }
 
@@ -123,14 +122,26 @@ pub(crate) fn pat_type(alloc: Global, pat: &Pat, types: &[Ty]) -> Result<Ty, NoM
 fn pat_types(alloc: Global, list: &Pats, types: &[Ty]) -> Result<Tys, NoMemory>
     ensures { IfOk result (λ a. a ≡ values (type_at_unknown types.now) list.now) }
 {
-    match list {
-        Pats::Empty => Ok(Tys::Empty),
-        Pats::More(a, rest) => {
-            let a = Shared::new(alloc, pat_type(alloc, a.get(), types)?)?;
-            let rest = Shared::new(alloc, pat_types(alloc, rest.get(), types)?)?;
-            Ok(Tys::More(a, rest))
-        }
+    let mut all = Vec::new(alloc);
+    let mut left = list;
+    while let Pats::More(a, rest) = left {
+        all.push(pat_type(alloc, a.get(), types)?)?;
+        left = rest.get();
     }
+    listed(alloc, all)
+}
+
+/// The types as a list, made from its end.
+#[tactic(auto, using(crate::proofs::SolvingSteps::lists))]
+fn listed(alloc: Global, mut types: Vec<Ty>) -> Result<Tys, NoMemory>
+    ensures { IfOk result (λ As. As ≡ type_row types.items) }
+{
+    let mut list = Tys::Empty;
+    while let Some(last) = types.pop() {
+        let rest = Shared::new(alloc, list)?;
+        list = Tys::More(Shared::new(alloc, last)?, rest);
+    }
+    Ok(list)
 }
 
 #[tactic(auto, using(crate::proofs::SolvingSteps::unknowns))]

@@ -3,7 +3,7 @@ ghost use Rattle.std.specs.Prelude.{◌≡◌, ◌↔◌, ◌<◌, ◌+◌, ◌�
 ghost use Rattle.ev_infer.specs.declared.solving.Mark.TheVariants.{Done};
 ghost use Rattle.ev_unify.specs.Patterns.{value};
 ghost use Rattle.ev_infer.specs.inner.Bulks.{IsWithin, type_at_unknown};
-ghost use Rattle.ev_infer.specs.inner.Solving.{AreMarks, AreVisits, IsFirstMark, IsBoundBy, IsLeftFree, LeavesFree, AreSolved, AreFree, AreKnown, IsBoundTo, mark, labor};
+ghost use Rattle.ev_infer.specs.inner.Solving.{AreMarks, AreVisits, AreOrdered, IsWay, NoneOpen, AreKept, IsWalked, IsFirstMark, IsBoundBy, IsLeftFree, LeavesFree, AreSolved, AreFree, AreKnown, IsBoundTo, mark, labor};
 
 use crate::bulks::{Bulk, NOTHING, is_within, pat_bulk};
 use crate::solving::{Mark, Scan, Table, Visit, look_at, pat_type};
@@ -20,6 +20,7 @@ pub(crate) fn solve_all(
     count: usize,
     limit: &Extent,
 ) -> Result<Option<Table>, NoMemory>
+    requires { AreOrdered binds.now count }
     ensures { IfOk result (λ o. MatchOption o (LeavesFree binds.now count) (λ t. AreSolved binds.now limit.now count t.bulks.items t.types.items)) }
 {
     let mut first = first_marks(alloc, binds, count)?;
@@ -33,9 +34,6 @@ pub(crate) fn solve_all(
             return Ok(None);
         }
     }
-    if !are_done(marks) {
-        return Err(NoMemory);
-    }
     Ok(Some(Table {
         bulks: measured,
         types: built,
@@ -44,6 +42,7 @@ pub(crate) fn solve_all(
 
 /// The marks before any walk.
 fn first_marks(alloc: Global, binds: &[Bind], count: usize) -> Result<Vec<Mark>, NoMemory>
+    requires { AreOrdered binds.now count }
     ensures marks { IfOk result (λ m. length m.items ≡ count) }
     ensures first { IfOk result (λ m. (u : ℕ) → u < count → IsFirstMark binds.now binds.now u (mark m.items u)) }
 {
@@ -51,11 +50,8 @@ fn first_marks(alloc: Global, binds: &[Bind], count: usize) -> Result<Vec<Mark>,
     let mut i = binds.len();
     while i > 0 {
         i -= 1;
-        let unknown = binds[i].unknown;
-        if unknown >= count as u128 {
-            return Err(NoMemory);
-        }
-        marks[unknown as usize] = Mark::Bound(i);
+        let unknown = binds[i].unknown as usize;
+        marks[unknown] = Mark::Bound(i);
     }
     Ok(marks)
 }
@@ -77,19 +73,6 @@ fn integers(alloc: Global, count: usize) -> Result<Vec<Ty>, NoMemory>
     Ok(types)
 }
 
-/// Whether all are known.
-fn are_done(marks: &[Mark]) -> bool
-    ensures { result ≡ true → (u : ℕ) → u < length marks.now → mark marks.now u ≡ Done }
-{
-    for found in marks {
-        match *found {
-            Mark::Done => {}
-            _ => return false,
-        }
-    }
-    true
-}
-
 /// Walks down from an unknown, unless that was done. False where a free unknown is left in it.
 #[tactic(auto, using(crate::proofs::UnknownSteps::walk))]
 fn settle(
@@ -102,8 +85,11 @@ fn settle(
     limit: &Extent,
 ) -> Result<bool, NoMemory>
     requires inside { unknown < length marks.old }
+    requires ordered { AreOrdered binds.now (length marks.old) }
     requires known { AreMarks binds.now limit.now (length marks.old) marks.old bulks.old types.old }
+    requires ended { NoneOpen marks.old }
     ensures known { OnOk result (AreMarks binds.now limit.now (length marks.old) marks.new bulks.new types.new) }
+    ensures walked { IfOk result (λ b. b ≡ true → IsWalked marks.old marks.new unknown) }
     ensures free { IfOk result (λ b. b ≡ false → IsLeftFree binds.now unknown) }
 {
     match marks[unknown] {
@@ -112,7 +98,7 @@ fn settle(
             let start = Visit { unknown, bind };
             visit(alloc, binds, marks, bulks, types, start, limit)
         }
-        Mark::Open => Err(NoMemory),
+        Mark::Open => Ok(true),
         Mark::Done => Ok(true),
     }
 }
@@ -130,8 +116,11 @@ fn visit(
 ) -> Result<bool, NoMemory>
     requires inside { start.unknown < length marks.old }
     requires bound { IsBoundBy binds.now start.unknown start.bind }
+    requires ordered { AreOrdered binds.now (length marks.old) }
     requires known { AreMarks binds.now limit.now (length marks.old) marks.old bulks.old types.old }
+    requires ended { NoneOpen marks.old }
     ensures known { OnOk result (AreMarks binds.now limit.now (length marks.old) marks.new bulks.new types.new) }
+    ensures walked { IfOk result (λ b. b ≡ true → IsWalked marks.old marks.new start.unknown) }
     ensures free { IfOk result (λ b. b ≡ false → IsLeftFree binds.now start.unknown) }
 {
     let mut path = Vec::new(alloc);
@@ -168,24 +157,27 @@ fn step(
     _start: usize,
     limit: &Extent,
 ) -> Result<bool, NoMemory>
+    requires ordered { AreOrdered binds.now (length marks.old) }
     requires known { AreMarks binds.now limit.now (length marks.old) marks.old bulks.old types.old }
+    requires way { IsWay binds.now marks.old (path.old.items ++ visit ∷ []) }
     requires path { AreVisits binds.now (length marks.old) _start (path.old.items ++ visit ∷ []) }
     ensures known { OnOk result (AreMarks binds.now limit.now (length marks.old) marks.new bulks.new types.new) }
     ensures path { OnOk result (AreVisits binds.now (length marks.old) _start path.new.items) }
+    ensures way { IfOk result (λ b. b ≡ true → IsWay binds.now marks.new path.new.items) }
+    ensures kept { OnOk result (AreKept marks.old marks.new) }
     ensures less { OnOk result (labor marks.new path.new.items < labor marks.old (path.old.items ++ visit ∷ [])) }
     ensures free { IfOk result (λ b. b ≡ false → IsLeftFree binds.now _start) }
 {
     let pat = &binds[visit.bind].value;
     match look_at(pat, marks) {
         Scan::Free => Ok(false),
-        Scan::Odd => Err(NoMemory),
         Scan::Next(next) => {
             path.push(visit)?;
             marks[next.unknown] = Mark::Open;
             path.push(next)?;
             Ok(true)
         }
-        Scan::Solved => {
+        Scan::Visited => {
             leave(alloc, binds, marks, bulks, types, visit, pat, limit)?;
             Ok(true)
         }

@@ -7,7 +7,7 @@ pub mod Written
 pub mod Declared
 pub mod Back
 pub mod TypeSteps
-pub mod Looking
+pub mod TableRows
 pub mod ParamSteps
 pub mod OpenSteps
 pub mod TermSteps

@@ -1,11 +1,11 @@
 -- Parameters in types at what the code writes.
-use Rattle.std.proofs.Common.{◌≡◌, ℕ, suc, ◌+◌, ◌*◌, ◌-◌, ◌<◌, ◌≤◌, Bool as Boolean, false, ◌||◌, refl, ap, sym, ◌∙◌, arith}
+use Rattle.std.proofs.Common.{◌≡◌, ℕ, suc, ◌+◌, ◌*◌, ◌-◌, ◌<◌, ◌≤◌, Bool as Boolean, true, false, ◌||◌, refl, ap, sym, ◌∙◌, arith}
 use Rattle.std.specs.List.{list_any, range_with_len}
-use Rattle.ev_terms.specs.declared.types.Ty.{Ty, Int, Bool, Prop, Param, Data}
+use Rattle.ev_terms.specs.declared.types.Ty.{Ty}
 use Rattle.ev_terms.specs.declared.types.Tys.{Tys, Empty}
 use Rattle.ev_terms.specs.declared.types.Ty.TheVariants.{Pow, Prod}
 use Rattle.ev_terms.specs.declared.types.Tys.TheVariants.{More}
-use Rattle.ev_terms.specs.Types.{pow, prod, more, type_list, Pow-pow, Prod-prod, More-more}
+use Rattle.ev_terms.specs.Types.{more, type_list, Pow-pow, Prod-prod, More-more}
 use Rattle.ev_terms.specs.Measures.{type_size, types_size}
 use Rattle.ev_typing.specs.Occurs.{has_param, have_param}
 use Rattle.ev_typing.proofs.Names.{drop_at, drop_all}
@@ -37,28 +37,18 @@ any_end f i n l = let e : n - i ≡ 0 = omega arith in ap (λ k. list_any f (ran
 
 pub ruleset params = (any_step, any_end, listed_param)
 
--- the second type of a product, and the rest of a list
+-- the second type of a product, and a type of a list
 pub right_rank : (ty a b r : Ty) → ty ≡ Prod a b → r ≡ b → 2 * type_size r < 2 * type_size ty
 right_rank ty a b r e q =
     let x : type_size ty ≡ 1 + (type_size a + type_size b) = ap type_size e ∙ type_size-Prod a b in
     let y : type_size r ≡ type_size b = ap type_size q in
     omega arith
 
-pub rest_rank : (types rest got : Tys) (a : Ty) → types ≡ More a rest → got ≡ rest → 2 * types_size got + 1 < 2 * types_size types + 1
-rest_rank types rest got a e q =
-    let x : types_size types ≡ type_size a + types_size rest = ap types_size e ∙ types_size-More a rest in
-    let y : types_size got ≡ types_size rest = ap types_size q in
-    let z = some_size a in
+pub item_rank : (all left b : Tys) (a r : Ty) → left ≡ More a b → r ≡ a → types_size left ≤ types_size all → 2 * type_size r < 2 * types_size all + 1
+item_rank all left b a r e q h =
+    let x : types_size left ≡ type_size a + types_size b = ap types_size e ∙ types_size-More a b in
+    let y : type_size r ≡ type_size a = ap type_size q in
     omega arith
-  where
-    some_size : (a : Ty) → 1 ≤ type_size a
-    some_size Int = omega arith
-    some_size Bool = omega arith
-    some_size Prop = omega arith
-    some_size (Param i) = omega arith
-    some_size (pow a) = omega arith
-    some_size (prod a b) = omega arith
-    some_size (Data n types) = omega arith
 
 pub second_param : (j : ℕ) (ty a b x y : Ty) (r s : Boolean) → ty ≡ Prod a b → x ≡ a → y ≡ b → r ≡ has_param j x → r ≡ false → s ≡ has_param j y → s ≡ has_param j ty
 second_param j ty a b x y r s e p q u f v =
@@ -70,3 +60,10 @@ pub rest_param : (j : ℕ) (types rest got : Tys) (a x : Ty) (r s : Boolean) →
 rest_param j types rest got a x r s e p q u f v =
     v ∙ ap (have_param j) q
     ∙ sym (ap (have_param j) e ∙ have_param-More j a rest ∙ ap (λ z. z || have_param j rest) (sym (ap (has_param j) p) ∙ sym u ∙ f))
+
+pub first_param : (j : ℕ) (types left rest : Tys) (a x : Ty) (r : Boolean) → left ≡ More a rest → x ≡ a → r ≡ has_param j x → r ≡ true → have_param j left ≡ have_param j types → true ≡ have_param j types
+first_param j types left rest a x r e p u f h =
+    ap (λ z. z || have_param j rest) (sym f ∙ u ∙ ap (has_param j) p) ∙ sym (ap (have_param j) e ∙ have_param-More j a rest) ∙ h
+
+pub no_param : (j : ℕ) (types left : Tys) → left ≡ Empty → have_param j left ≡ have_param j types → false ≡ have_param j types
+no_param j types left e h = sym (ap (have_param j) e) ∙ h

@@ -12,7 +12,7 @@ use Rattle.ev_print.specs.Canon.{Piece, written, texts, with_commas, called_text
 use Rattle.ev_terms.specs.declared.types.Sym.TheVariants.{Base, User}
 use Rattle.ev_terms.specs.Term.{Term, Terms, var, lit, node, terms, var_of, lit_of, sym_of, types_of}
 use Rattle.ev_terms.specs.Symbols.{binds}
-use Rattle.ev_terms.specs.Subst.{type_inst, type_at}
+use Rattle.ev_terms.specs.Substitution.{type_inst, type_at}
 use Rattle.ev_typing.specs.Profiles.{Profile}
 use Rattle.ev_typing.specs.Env.{Env, profile}
 use Rattle.ev_terms.proofs.Children.{depth_at, drop_at, drop_all}

@@ -11,18 +11,10 @@ ghost use Rattle.ev_print.specs.Canon.{annotation, leaves_open};
 ghost use Rattle.ev_print.specs.inner.OpenTypes.{open_type};
 
 use crate::params::{fields_leave_open, types_leave_open};
+use ev_terms::symbols::{EMPTY, ID, PRJ1, PRJ2};
 use ev_terms::{Name, NoMemory, Shared, Sym, TryCopy, Ty, Tys, instantiate_type};
-use ev_typing::{Con, DataDecl, Entry, Env, Signature};
+use ev_typing::{Con, DataDecl, Entry, Env, Signature, pair_of, relation_of, set_of};
 use std::alloc::Global;
-
-/// `{}`, `id`, `prj1` and `prj2`, whose types their children don't tell, by their rows in the table of base symbols.
-const EMPTY_SET: u16 = 28;
-
-const IDENTITY: u16 = 57;
-
-const FIRST: u16 = 58;
-
-const SECOND: u16 = 59;
 
 /// The type that is written behind the symbol at these types, if one is.
 #[tactic(auto, using(crate::proofs::OpenSteps::annotations))]
@@ -54,54 +46,31 @@ pub(crate) fn open_type(alloc: Global, env: &Env, sym: &Sym) -> Result<Option<Ty
 fn base_type(alloc: Global, row: u16) -> Result<Option<Ty>, NoMemory>
     ensures { IfOk result (λ o. o ≡ open_type (Base row) (base_profile row)) }
 {
-    if row == EMPTY_SET {
+    if row == EMPTY {
         return Ok(Some(set_of(alloc, Ty::Param(0))?));
     }
-    if row == IDENTITY {
-        return Ok(Some(relation(alloc, Ty::Param(0), Ty::Param(0))?));
+    if row == ID {
+        return Ok(Some(relation_of(alloc, Ty::Param(0), Ty::Param(0))?));
     }
-    if row == FIRST {
+    if row == PRJ1 {
         return Ok(Some(projection(alloc, 0)?));
     }
-    if row == SECOND {
+    if row == PRJ2 {
         return Ok(Some(projection(alloc, 1)?));
     }
     Ok(None)
-}
-
-#[tactic(auto, using(crate::proofs::OpenSteps::forms))]
-fn set_of(alloc: Global, ty: Ty) -> Result<Ty, NoMemory>
-    ensures { IfOk result (λ a. a ≡ pow ty) }
-{
-    Ok(Ty::Pow(Shared::new(alloc, ty)?))
-}
-
-#[tactic(auto, using(crate::proofs::OpenSteps::forms))]
-fn pair_of(alloc: Global, first: Ty, second: Ty) -> Result<Ty, NoMemory>
-    ensures { IfOk result (λ a. a ≡ prod first second) }
-{
-    let first = Shared::new(alloc, first)?;
-    let second = Shared::new(alloc, second)?;
-    Ok(Ty::Prod(first, second))
-}
-
-fn relation(alloc: Global, from: Ty, to: Ty) -> Result<Ty, NoMemory>
-    ensures { IfOk result (λ a. a ≡ pow (prod from to)) }
-{
-    set_of(alloc, pair_of(alloc, from, to)?)
 }
 
 fn projection(alloc: Global, to: u32) -> Result<Ty, NoMemory>
     ensures { IfOk result (λ a. a ≡ pow (prod (prod (Param 0) (Param 1)) (Param to))) }
 {
     let pair = pair_of(alloc, Ty::Param(0), Ty::Param(1))?;
-    relation(alloc, pair, Ty::Param(to))
+    relation_of(alloc, pair, Ty::Param(to))
 }
 
 fn user_type(alloc: Global, env: &Env, name: &Name) -> Result<Option<Ty>, NoMemory>
     ensures { IfOk result (λ o. o ≡ open_type (User name.now) (option_map symbol_profile (find_symbol env.now name.now))) }
 {
-    let _opened = env.count();
     match env.symbol(name) {
         Some(entry) => entry_type(alloc, entry, name),
         None => Ok(None),

@@ -34,15 +34,14 @@ fn has_param(ty: &Ty, i: u32) -> bool
 fn have_param(types: &Tys, i: u32) -> bool
     ensures { result ≡ have_param i types.now }
 {
-    match types {
-        Tys::Empty => false,
-        Tys::More(a, rest) => {
-            if has_param(a.get(), i) {
-                return true;
-            }
-            have_param(rest.get(), i)
+    let mut left = types;
+    while let Tys::More(a, rest) = left {
+        if has_param(a.get(), i) {
+            return true;
         }
+        left = rest.get();
     }
+    false
 }
 
 #[tactic(auto, using(crate::proofs::ParamSteps::fields))]

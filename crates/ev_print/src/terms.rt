@@ -19,8 +19,9 @@ use ev_terms::{Bytes, Name, NoMemory, Sym, Tree, Ty, Tys, binds};
 use ev_typing::Env;
 use std::alloc::Global;
 
-/// The canonical text of a term under so many variables, of which the outermost is `v0`. It is written into one buffer, in time linear
-/// in its length, and no tree is copied. Where the term is typed, the text reads back.
+/// The canonical text of a term under so many variables, of which the outermost is `v0`. It is written into one buffer, and no tree is
+/// copied. Each operator and constructor is looked up in the environment, and each of its type parameters in its argument types. Where
+/// the term is typed, the text reads back.
 pub fn print(alloc: Global, env: &Env, depth: u32, tree: &Tree) -> Result<Bytes, NoMemory>
     ensures { IfOk result (λ text. text ≡ canon env.now depth tree.now) }
 {
@@ -175,6 +176,7 @@ fn push_symbol(
 ) -> Result<(), NoMemory>
     ensures { OnOk result (text.new.items ≡ text.old.items ++ written_symbol sym.now n (type_list types.now) (pieces env.now (n + binds sym.now) (terms children.now))) }
 {
+    // so many variables, one bound in the other, fit no memory
     let Some(inner) = n.checked_add(u64::from(binds(sym))) else {
         return Err(NoMemory);
     };

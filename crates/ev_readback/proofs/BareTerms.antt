@@ -10,7 +10,7 @@ use Rattle.ev_terms.specs.declared.types.Sym.TheVariants.{Base, User}
 use Rattle.ev_terms.specs.Types.{pow, prod, more, type_list}
 use Rattle.ev_terms.specs.Term.{Term, Terms, var, lit, node, nil, cons}
 use Rattle.ev_terms.specs.Symbols.{binds}
-use Rattle.ev_terms.specs.Subst.{type_inst, type_at}
+use Rattle.ev_terms.specs.Substitution.{type_inst, type_at}
 use Rattle.ev_forms.specs.Base.{at_type}
 use Rattle.ev_typing.specs.Occurs.{has_param}
 use Rattle.ev_typing.specs.Profiles.{Profile, base_profiles, base_profile}

@@ -6,7 +6,7 @@ use Rattle.std.proofs.lemmas.Bool.{eqb-true, eqb-false}
 use Rattle.ev_terms.specs.declared.types.Ty.{Ty, Int, Bool, Prop, Param, Data}
 use Rattle.ev_terms.specs.declared.types.Tys.{Tys, Empty}
 use Rattle.ev_terms.specs.Types.{pow, prod, more, type_list}
-use Rattle.ev_terms.specs.Subst.{type_inst, types_inst, type_at}
+use Rattle.ev_terms.specs.Substitution.{type_inst, types_inst, type_at}
 use Rattle.ev_typing.specs.Occurs.{has_param, have_param}
 use Rattle.ev_typing.specs.TypeLists.{types}
 use Rattle.ev_typing.proofs.Laws.{types-type_list}

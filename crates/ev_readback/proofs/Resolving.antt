@@ -12,7 +12,7 @@ use Rattle.ev_terms.specs.Types.{pow, prod, more, type_list}
 use Rattle.ev_terms.specs.Term.{Term, Terms, var, lit, node, nil, cons}
 use Rattle.ev_terms.specs.Symbols.{binds}
 use Rattle.ev_terms.specs.Measures.{depth, depths}
-use Rattle.ev_terms.specs.Subst.{type_inst, type_at}
+use Rattle.ev_terms.specs.Substitution.{type_inst, type_at}
 use Rattle.ev_forms.specs.Base as base
 use Rattle.ev_syntax.specs.Marks.{not_word, minus_sign, int_word, bool_set_word, for_all_sign}
 use Rattle.ev_typing.specs.Profiles.{Profile, base_profiles, base_profile}

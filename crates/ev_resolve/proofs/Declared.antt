@@ -1,21 +1,21 @@
 -- What an environment says of a name.
-use Rattle.std.specs.Prelude.{◌≡◌, ◌||◌, ℕ, Bool, true, false, cond, List, [], ◌∷◌, ◌++◌, Option, Some, None, map, find, length, bytes_eq, is_some, option_map, refl}
+use Rattle.std.specs.Prelude.{◌≡◌, ◌||◌, Bool, true, false, cond, List, [], ◌∷◌, Option, Some, None, map, length, bytes_eq, is_some, option_map, refl}
 use Rattle.std.specs.Option.{option_and_then}
 use Rattle.std.specs.List.{list_any}
-use Rattle.std.proofs.Common.{ap, sym, ◌∙◌, true≢false}
+use Rattle.std.proofs.Common.{ap, sym, ◌∙◌}
 use Rattle.std.proofs.lemmas.List.Folds.{list_any-append}
 use Rattle.ev_terms.specs.declared.types.Sym.TheVariants.{User}
 use Rattle.ev_typing.specs.declared.typing.Entry.{Entry}
 use Rattle.ev_typing.specs.declared.typing.DataDecl.{DataDecl}
 use Rattle.ev_typing.specs.Profiles.{Profile}
-use Rattle.ev_typing.specs.Env.{Env, Name, Symbol, look_up, names, declares, declaring, datatypes, symbols, find_data, find_symbol, symbol_profile, profile}
+use Rattle.ev_typing.specs.Env.{Env, Name, Symbol, look_up, declares, declaring, datatypes, symbols, find_data, find_symbol, symbol_profile, profile}
 use Rattle.ev_typing.specs.WellFormed.{IsWellFormed}
 use Rattle.ev_typing.proofs.Names.{apart_flip, same_name, name_same}
 use Rattle.ev_typing.proofs.Entries.{find_data-declaring, find_symbol-declaring}
-use Rattle.ev_resolve.specs.UsedNames.{is_formula_name, is_name_among}
+use Rattle.ev_resolve.specs.UsedNames.{is_formula_name}
 use Rattle.ev_resolve.specs.Resolve.{known_of}
 
-flip : (m n : Name) → bytes_eq m n ≡ bytes_eq n m
+pub flip : (m n : Name) → bytes_eq m n ≡ bytes_eq n m
 flip m n = go (bytes_eq m n) refl
   where
     go : (b : Bool) → bytes_eq m n ≡ b → b ≡ bytes_eq n m

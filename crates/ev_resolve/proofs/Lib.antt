@@ -4,4 +4,7 @@ pub mod ResolveSteps
 pub mod Declared
 pub mod Taking
 pub mod Using
+pub mod BindSteps
+pub mod Numbering
+pub mod PlaceSteps
 pub mod Signing

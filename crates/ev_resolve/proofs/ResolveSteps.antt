@@ -1,9 +1,9 @@
 -- What the reader of raw trees needs.
-use Rattle.std.specs.Prelude.{◌≡◌, ℕ, zero, suc, ◌+◌, ◌-◌, ◌*◌, ◌<◌, ◌≤◌, take, drop, List, [], ◌∷◌, ◌++◌, length, Option, Some, None, option_map, option_and_then, refl}
+use Rattle.std.specs.Prelude.{◌≡◌, ℕ, zero, suc, ◌+◌, ◌-◌, ◌<◌, ◌≤◌, take, drop, List, [], ◌∷◌, ◌++◌, length, Option, Some, None, option_map, option_and_then, refl}
 use Rattle.std.proofs.Common.{ap, sym, ◌∙◌, arith, get_or}
 use Rattle.std.proofs.lemmas.List.{take_all}
 use denote.Ref.{Bor}
-use Rattle.ev_syntax.specs.Raw.{Binder, pattern_binders, Raw, Raws, word, literal, param, type_set, call, around, unary, binary, inverse, apply, image, of_type, quantified, set_of, collected, lambda, members, written, none, one}
+use Rattle.ev_syntax.specs.Raw.{Binder, Raw, Raws, word, literal, param, type_set, call, around, unary, binary, inverse, apply, image, of_type, quantified, set_of, collected, lambda, members, written, none, one}
 use Rattle.ev_syntax.specs.inner.RawView.{raws}
 use Rattle.ev_resolve.specs.Reading.{Known, Variable, Meaning, meaning, both, count_of}
 use Rattle.ev_resolve.specs.Bare.{Bare, Bares, bare_none, bare_more}
@@ -12,6 +12,8 @@ use Rattle.ev_resolve.specs.Resolve.{call_bare, resolve, resolve_all}
 use Rattle.ev_resolve.specs.declared.bound.Inner.{Inner}
 use Rattle.ev_resolve.specs.declared.bound.Inner.TheVariants.{Body, Collected, Lambda}
 use Rattle.ev_resolve.specs.inner.Inners.{binders_told}
+use Rattle.ev_resolve.specs.inner.Scopes.{scope_of}
+use Rattle.ev_resolve.specs.declared.scope.ScopeVariable.{ScopeVariable}
 use Rattle.ev_resolve.proofs.NameSteps.{scope_more}
 
 -- what falls as a raw tree is taken apart
@@ -29,10 +31,10 @@ abbrev mutual
   weight (apply e f) = 8 + (weight e + weight f)
   weight (image e f) = 8 + (weight e + weight f)
   weight (of_type e a) = 8 + weight e
-  weight (quantified m bs e) = 20 + (4 * length bs + weight e)
+  weight (quantified m bs e) = 20 + weight e
   weight (set_of b e) = 20 + weight e
-  weight (collected m bs e f) = 20 + (4 * length bs + (weight e + weight f))
-  weight (lambda x e f) = 20 + (4 * length (pattern_binders x) + (weight e + weight f))
+  weight (collected m bs e f) = 20 + (weight e + weight f)
+  weight (lambda x e f) = 20 + (weight e + weight f)
   weight (members es) = 8 + weights es
   weight (written a) = 1
 
@@ -99,5 +101,26 @@ pub call_found : (params : List (List ℕ)) (known : Known) (vars : List Variabl
 call_found params known vars n es m k bs e f g =
     ap (λ x. call_bare x n k bs) e ∙ ap (λ x. call_bare (meaning params known n vars 0) n x bs) (f ∙ sym (counted es))
     ∙ ap (option_and_then (call_bare (meaning params known n vars 0) n (count_of (raws es)))) g
+
+-- what is told of something that is there, or not
+pub told_some : {X Y : Type 0} (f : X → Y) (o : Option X) (x : X) (p : Option Y) → option_map f o ≡ p → o ≡ Some x → p ≡ Some (f x)
+told_some f o x p e q = sym e ∙ ap (option_map f) q
+
+pub told_none : {X Y : Type 0} (f : X → Y) (o : Option X) (p : Option Y) → option_map f o ≡ p → o ≡ None → p ≡ None
+told_none f o p e q = sym e ∙ ap (option_map f) q
+
+-- a list of one item or more by its last
+last_of : {X : Type 0} (x : X) (xs : List X) → (v : X) × (x ∷ xs ≡ take (length xs) (x ∷ xs) ++ v ∷ [])
+last_of x [] = (x, refl)
+last_of x (y ∷ ys) = let (v, e) = last_of y ys in (v, ap (λ l. x ∷ l) e)
+
+-- the innermost variable taken away again
+pub popped : (old pushed left now : List ScopeVariable) (w : Variable) (ws : List Variable) → now ≡ take (length left - 1) left → left ≡ pushed → scope_of pushed ≡ w ∷ ws
+    → ((v : ScopeVariable) → (us : List ScopeVariable) → pushed ≡ us ++ v ∷ [] → us ≡ old) → now ≡ old
+popped old [] left now w ws e k h back = let n : [] ≡ w ∷ ws = h in cc
+popped old (x ∷ xs) left now w ws e k h back =
+    let (v, q) = last_of x xs in
+    let n : length (x ∷ xs) - 1 ≡ length xs = omega arith in
+    e ∙ ap (λ l. take (length l - 1) l) k ∙ ap (λ m. take m (x ∷ xs)) n ∙ back v (take (length xs) (x ∷ xs)) q
 
 pub ruleset walk = (weight_at, told_length, counted, scope_more, before_nothing, first_raw)

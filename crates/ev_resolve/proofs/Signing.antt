@@ -1,11 +1,10 @@
 -- What the code that looks up signatures needs.
-use Rattle.std.specs.Prelude.{◌≡◌, ℕ, zero, suc, ◌+◌, ◌-◌, ◌<◌, Bool as Boolean, true, false, cond, if◌then◌else◌, List, [], ◌∷◌, ◌++◌, Option, Some, None, map, flat_map, find, length, slice_get, bytes_eq, option_map, refl}
+use Rattle.std.specs.Prelude.{◌≡◌, ℕ, suc, ◌+◌, ◌-◌, ◌<◌, Bool as Boolean, true, false, cond, if◌then◌else◌, List, [], ◌∷◌, ◌++◌, Option, Some, None, map, flat_map, find, slice_get, bytes_eq, option_map, refl}
 use Rattle.std.specs.Option.{option_and_then, is_some}
 use Rattle.std.specs.List.{enumerate_from}
 use Rattle.std.proofs.Common.{ap, sym, ◌∙◌, append_assoc, arith}
-use Rattle.std.proofs.lemmas.Option.{slice_get-map}
 use Rattle.ev_terms.specs.declared.types.Ty.{Ty, Param}
-use Rattle.ev_terms.specs.declared.types.Tys.{Tys, Empty}
+use Rattle.ev_terms.specs.declared.types.Tys.{Tys}
 use Rattle.ev_terms.specs.declared.types.Tys.TheVariants.{More}
 use Rattle.ev_terms.specs.Types.{pow, prod, more, type_list, Pow-pow, Prod-prod, More-more}
 use Rattle.ev_terms.proofs.TypeSteps.{type_list-More}
@@ -14,7 +13,7 @@ use Rattle.ev_typing.specs.declared.typing.DataDecl.{DataDecl}
 use Rattle.ev_typing.specs.declared.typing.Con.{Con}
 use Rattle.ev_typing.specs.declared.typing.Var.{Var}
 use Rattle.ev_typing.specs.declared.table.Row.{Row}
-use Rattle.ev_typing.specs.TypeLists.{params_from, own_types}
+use Rattle.ev_typing.specs.TypeLists.{params_from}
 use Rattle.ev_typing.specs.Profiles.{Profile, base_profiles, base_profile}
 use Rattle.ev_typing.specs.Table.{row_profile}
 use Rattle.ev_typing.specs.Env.{Env, Name, Symbol, ConOf, DesOf, look_up, con_symbols, symbols, declaring, find_symbol, con_profile, des_profile, symbol_profile}

@@ -1,11 +1,11 @@
 -- What the reader of written types needs.
-use Rattle.std.specs.Prelude.{◌≡◌, ℕ, ◌+◌, ◌-◌, ◌≤◌, [], ◌∷◌, length, take, drop, Bool as Boolean, List, Option, Some, option_and_then}
+use Rattle.std.specs.Prelude.{◌≡◌, ℕ, zero, suc, ◌+◌, ◌-◌, ◌<◌, ◌≤◌, [], ◌∷◌, length, drop, Bool as Boolean, List, Option, Some, None, option_and_then, refl}
 use Rattle.std.proofs.Common.{ap, sym, ◌∙◌, arith, get_or}
-use Rattle.std.proofs.lemmas.List.{take_all}
+use Rattle.ev_typing.proofs.Names.{drop_at, drop_all}
 use Rattle.ev_syntax.specs.inner.TypeView.{raw_types}
 use Rattle.ev_terms.specs.declared.types.Ty.{Ty}
-use Rattle.ev_terms.specs.declared.types.Tys.{Tys}
-use Rattle.ev_resolve.specs.Reading.{named, both}
+use Rattle.ev_terms.specs.declared.types.Tys.{Tys, Empty}
+use Rattle.ev_resolve.specs.Reading.{Known, named, both, type_of_raw, types_of_raw}
 use Rattle.ev_terms.specs.Types.{more, Pow-pow, Prod-prod, More-more}
 use Rattle.ev_syntax.specs.Raw.{RawType, RawTypes, int_type, bool_type, param_type, named_type, pow_type, prod_type, no_types, one_type}
 
@@ -28,10 +28,38 @@ abbrev mutual
 pub named_with : (o : Option ℕ) (i : ℕ) (p : Option Tys) (ts : Tys) (b : Boolean) (n : List ℕ) → o ≡ Some i → p ≡ Some ts → named (Some i) b n ts ≡ option_and_then (named o b n) p
 named_with o i p ts b n e f = sym (ap (λ q. option_and_then (named q b n) p) e ∙ ap (option_and_then (named (Some i) b n)) f)
 
-pub types_with : (o : Option Ty) (p : Option Tys) (a : Ty) (ts whole : Tys) → o ≡ Some a → p ≡ Some ts → whole ≡ more a ts → Some whole ≡ both more o p
-types_with o p a ts whole e f g = ap Some g ∙ sym (ap (λ q. both more q p) e ∙ ap (both more (Some a)) f)
+pub weight_at : (types : List RawType) (i : ℕ) (a : RawType) → a ≡ get_or types i a → i < length types → weight a < weights (raw_types types)
+weight_at [] i a q lt = absurd (omega (arith, lt))
+weight_at (b ∷ bs) zero a q lt = let same : weight a ≡ weight b = ap weight q in omega (arith, same)
+weight_at (b ∷ bs) (suc i) a q lt = omega (arith, weight_at bs i a q (omega (arith, lt)))
 
--- a list by its first item
-pub first_type : (types : List RawType) (a : RawType) → 1 ≤ length types → a ≡ get_or types 0 a → raw_types types ≡ one_type a (raw_types (take (length types - 1) (drop 1 types)))
-first_type [] a lt e = absurd (omega (arith, lt))
-first_type (b ∷ bs) a lt e = ap (λ x. one_type x (raw_types bs)) (sym e) ∙ ap (λ xs. one_type a (raw_types xs)) (sym (take_all (length (b ∷ bs) - 1) bs (omega arith)))
+module _ (params : List (List ℕ)) (known : Known) where
+  -- a list is made from its end
+  abbrev pub MadeFrom : List RawType → ℕ → Tys → Type 0
+  MadeFrom types left list = (left ≤ length types) × (types_of_raw params known (raw_types (drop left types)) ≡ Some list)
+
+  pub made_nothing : (types : List RawType) → MadeFrom types (length types) Empty
+  made_nothing types = (omega arith, ap (λ l. types_of_raw params known (raw_types l)) (drop_all types (length types) (omega arith)))
+
+  pub made_more : (types : List RawType) (left : ℕ) (a : RawType) (ty : Ty) (list whole : Tys) → 0 < left → MadeFrom types left list → a ≡ get_or types (left - 1) a
+      → type_of_raw params known a ≡ Some ty → whole ≡ more ty list → MadeFrom types (left - 1) whole
+  made_more types left a ty list whole some h at found is = (
+    omega (arith, h.0),
+    ap (λ l. types_of_raw params known (raw_types l)) (drop_at types (left - 1) a at (omega (arith, some, h.0)))
+        ∙ ap (λ k. both more (type_of_raw params known a) (types_of_raw params known (raw_types (drop k types)))) next
+        ∙ ap (λ o. both more o (types_of_raw params known (raw_types (drop left types)))) found ∙ ap (both more (Some ty)) h.1 ∙ ap Some (sym is),
+  )
+    where
+      next : left - 1 + 1 ≡ left
+      next = omega (arith, some)
+
+  pub made_none : (types : List RawType) (i : ℕ) (a : RawType) → a ≡ get_or types i a → i < length types → type_of_raw params known a ≡ None → None ≡ types_of_raw params known (raw_types types)
+  made_none [] i a at lt none = absurd (omega (arith, lt))
+  made_none (b ∷ bs) zero a at lt none =
+      sym (ap (λ o. both more o (types_of_raw params known (raw_types bs))) (ap (type_of_raw params known) (sym at) ∙ none))
+  made_none (b ∷ bs) (suc i) a at lt none =
+      by (type_of_raw params known b) ∙ ap (both more (type_of_raw params known b)) (made_none bs i a at (omega (arith, lt)) none)
+    where
+      by : (o : Option Ty) → None ≡ both more o None
+      by None = refl
+      by (Some x) = refl

@@ -1,15 +1,15 @@
 -- What the walk over used names needs.
-use Rattle.std.specs.Prelude.{◌≡◌, ◌||◌, ℕ, zero, suc, ◌+◌, ◌-◌, ◌<◌, ◌≤◌, Bool, true, false, not, max, List, [], ◌∷◌, ◌++◌, length, map, reverse, take, drop, bytes_eq, cond, refl}
-use Rattle.std.specs.List.{list_any, filter}
+use Rattle.std.specs.Prelude.{◌≡◌, ◌||◌, ℕ, zero, suc, ◌+◌, ◌<◌, ◌≤◌, Bool, true, false, not, List, [], ◌∷◌, ◌++◌, length, take, bytes_eq, cond, refl}
+use Rattle.std.specs.List.{list_any}
 use Rattle.std.proofs.Common.{ap, sym, ◌∙◌, arith, get_or, append_assoc}
 use Rattle.std.proofs.lemmas.List.Folds.{list_any-append}
 use Rattle.std.proofs.lemmas.List.{map-append, reverse-append}
-use Rattle.ev_syntax.specs.Raw.{RawType, Raw, Binder}
-use Rattle.ev_syntax.specs.inner.RawView.{raws, height, heights}
+use Rattle.ev_syntax.specs.Raw.{RawType, Binder}
 use Rattle.ev_syntax.specs.inner.TypeView.{raw_types, height as type_height, types_height}
 use Rattle.ev_typing.proofs.Names.{drop_at, drop_all}
-use Rattle.ev_resolve.specs.UsedNames.{binders_types_names, written_names, names_of, is_name_among, without_bound}
+use Rattle.ev_resolve.specs.UsedNames.{binders_types_names, written_names, without_bound}
 use Rattle.ev_resolve.proofs.Taking.{height_at}
+use Rattle.ev_resolve.proofs.NameSteps.{scope_more}
 
 pub type_height_at : (as' : List RawType) (i : ℕ) (a : RawType) → a ≡ get_or as' i a → i < length as' → type_height a ≤ types_height (raw_types as')
 type_height_at [] i a q h = absurd (omega (arith, h))
@@ -37,25 +37,38 @@ pattern_pair p xs ys = ap (list_any p) (types_append xs ys) ∙ list_any-append 
 pub ruleset patterns = (pattern_pair, binder_alone)
 
 -- the scope
-or_comm : (a b : Bool) → (a || b) ≡ (b || a)
-or_comm true true = refl
-or_comm true false = refl
-or_comm false true = refl
-or_comm false false = refl
+or_false : (b : Bool) → (b || false) ≡ b
+or_false true = refl
+or_false false = refl
 
-any_reverse : (p : List ℕ → Bool) (xs : List (List ℕ)) → list_any p (reverse xs) ≡ list_any p xs
-any_reverse p [] = refl
-any_reverse p (x ∷ xs) =
-    ap (list_any p) (reverse-append (x ∷ []) xs) ∙ list_any-append p (reverse xs) (x ∷ []) ∙ ap (λ b. b || (p x || false)) (any_reverse p xs)
-    ∙ or_comm (list_any p xs) (p x || false) ∙ ap (λ b. b || list_any p xs) (or_comm (p x) false)
+pub name_bound : (p : List ℕ → Bool) (bound : List (List ℕ)) (n : List ℕ) → true ≡ list_any (bytes_eq n) bound → false ≡ list_any p (without_bound bound (n ∷ []))
+name_bound p bound n h = ap (λ b. list_any p (cond (not b) (n ∷ []) [])) h
 
-pub name_bound : (p : List ℕ → Bool) (scope : List (List ℕ)) (n : List ℕ) → true ≡ list_any (bytes_eq n) scope → false ≡ list_any p (without_bound (reverse scope) (n ∷ []))
-name_bound p scope n h = ap (λ b. list_any p (cond (not b) (n ∷ []) [])) (h ∙ sym (any_reverse (bytes_eq n) scope))
+pub name_free : (p : List ℕ → Bool) (bound : List (List ℕ)) (n : List ℕ) (r : Bool) → false ≡ list_any (bytes_eq n) bound → r ≡ p n → r ≡ list_any p (without_bound bound (n ∷ []))
+name_free p bound n r h e = e ∙ sym (or_false (p n)) ∙ ap (λ b. list_any p (cond (not b) (n ∷ []) [])) h
 
-pub name_free : (p : List ℕ → Bool) (scope : List (List ℕ)) (n : List ℕ) (r : Bool) → false ≡ list_any (bytes_eq n) scope → r ≡ p n → r ≡ list_any p (without_bound (reverse scope) (n ∷ []))
-name_free p scope n r h e = e ∙ sym (or_comm (p n) false) ∙ ap (λ b. list_any p (cond (not b) (n ∷ []) [])) (h ∙ sym (any_reverse (bytes_eq n) scope))
+pub take_old : {X : Type 0} (xs : List X) (x : X) → take (length xs) (xs ++ x ∷ []) ≡ xs
+take_old [] x = refl
+take_old (y ∷ ys) x = ap (λ l. y ∷ l) (take_old ys x)
 
-pub ruleset scopes = (reverse-append)
+pub longer : {X : Type 0} (xs : List X) (x : X) → length (xs ++ x ∷ []) ≡ length xs + 1
+longer [] x = refl
+longer (y ∷ ys) x = omega (arith, longer ys x)
+
+-- what was kept stays kept as more is put behind it
+pub kept_more : {X : Type 0} (first old new : List X) → take (length first) old ≡ first → take (length old) new ≡ old → take (length first) new ≡ first
+kept_more [] old new h g = refl
+kept_more (x ∷ xs) [] new h g = cc
+kept_more (x ∷ xs) (y ∷ ys) [] h g = cc
+kept_more (x ∷ xs) (y ∷ ys) (z ∷ zs) h g = two h g (kept_more xs ys zs)
+  where
+    tail : {X : Type 0} (a b : X) (as' bs : List X) → a ∷ as' ≡ b ∷ bs → as' ≡ bs
+    tail a b as' bs e = cc
+
+    two : y ∷ take (length xs) ys ≡ x ∷ xs → z ∷ take (length ys) zs ≡ y ∷ ys → (take (length xs) ys ≡ xs → take (length ys) zs ≡ ys → take (length xs) zs ≡ xs) → z ∷ take (length xs) zs ≡ x ∷ xs
+    two e f k = let r : take (length xs) zs ≡ xs = k (tail y x (take (length xs) ys) xs e) (tail z y (take (length ys) zs) ys f) in cc
+
+pub ruleset scopes = (scope_more, take_old, longer, reverse-append)
 
 pub ruleset calls = (name_bound, name_free)
 

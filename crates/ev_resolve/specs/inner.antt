@@ -6,3 +6,4 @@ pub mod BareView
 pub mod BareCode
 pub mod BareFalls
 pub mod Signing
+pub mod Places

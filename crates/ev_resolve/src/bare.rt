@@ -18,7 +18,7 @@ pub struct Bare {
 #[cycle(bare)]
 #[derive(Drop)]
 pub enum BareForm {
-    Var(u32),
+    Var(usize),
     Lit(u128),
     Node(Sym, Option<Ty>, ListOf<Bare>),
     Of(Box<Bare>, Ty),
@@ -49,7 +49,7 @@ impl Model for Bare {
 }
 
 /// The variable i.
-pub fn bare_variable(i: u32) -> Bare
+pub fn bare_variable(i: usize) -> Bare
     ensures { result ≡ bare_var i }
 {
     Bare {

@@ -1,26 +1,17 @@
 //! Names with and without arguments.
 ghost use Rattle.std.specs.Prelude.{◌≡◌, ℕ, List, IfOk};
-ghost use Rattle.ev_resolve.specs.Bare.{Bares, bare_var};
+ghost use Rattle.ev_resolve.specs.Bare.{Bares};
 ghost use Rattle.ev_resolve.specs.Reading.{variable as a_variable, predicate as a_predicate, parameter as a_parameter, symbol as a_symbol};
 ghost use Rattle.ev_resolve.specs.inner.BareView.{bares};
 ghost use Rattle.ev_resolve.specs.Resolve.{call_bare};
 ghost use Rattle.ev_resolve.specs.inner.Scopes.{meaning_told};
 
 use crate::bare::{Bare, BareTerms, bare_symbol, bare_variable};
-use crate::makers::{EQUAL, TRUE_VALUE, application, leaf, two, whole};
+use crate::makers::{application, leaf, two, whole};
 use crate::names::Meant;
+use ev_terms::symbols::{EQUAL, TRUE_VALUE};
 use ev_terms::{Name, NoMemory, Sym, TryCopy, Ty};
 use std::alloc::Global;
-
-/// The variable i. There are fewer than 2^32 variables, as memory has no room for more.
-fn variable(i: usize) -> Result<Bare, NoMemory>
-    ensures { IfOk result (λ b. b ≡ bare_var i) }
-{
-    match u32::try_from(i) {
-        Ok(i) => Ok(bare_variable(i)),
-        Err(_) => Err(NoMemory),
-    }
-}
 
 /// A name by what it means, with so many arguments. None where it cannot stand with them.
 pub fn call(
@@ -35,7 +26,7 @@ pub fn call(
     match meant {
         Meant::Variable(i) => call_variable(alloc, i, count, args),
         Meant::Predicate(i) => call_predicate(alloc, i, count),
-        Meant::Parameter(i) => call_parameter(alloc, i, count),
+        Meant::Parameter(i) => Ok(call_parameter(alloc, i, count)),
         Meant::Symbol(wanted) => call_symbol(alloc, name, wanted, count, args),
         Meant::Nothing => Ok(None),
     }
@@ -50,8 +41,8 @@ fn call_variable(
     ensures { IfOk result (λ o. (n : List ℕ) → o ≡ call_bare (a_variable i) n count (bares args)) }
 {
     match count {
-        0 => Ok(Some(variable(i)?)),
-        1 => Ok(Some(application(alloc, variable(i)?, args)?)),
+        0 => Ok(Some(bare_variable(i))),
+        1 => Ok(Some(application(alloc, bare_variable(i), args)?)),
         _ => Ok(None),
     }
 }
@@ -64,19 +55,17 @@ fn call_predicate(alloc: Global, i: usize, count: usize) -> Result<Option<Bare>,
         return Ok(None);
     }
     let value = leaf(alloc, TRUE_VALUE, None);
-    Ok(Some(two(alloc, EQUAL, Some(Ty::Bool), variable(i)?, value)?))
+    Ok(Some(two(alloc, EQUAL, Some(Ty::Bool), bare_variable(i), value)?))
 }
 
 /// A type parameter is the set of all of it.
-fn call_parameter(alloc: Global, i: usize, count: usize) -> Result<Option<Bare>, NoMemory>
-    ensures { IfOk result (λ o. (n : List ℕ) (bs : Bares) → o ≡ call_bare (a_parameter i) n count bs) }
+fn call_parameter(alloc: Global, i: u32, count: usize) -> Option<Bare>
+    ensures { (n : List ℕ) (bs : Bares) → result ≡ call_bare (a_parameter i) n count bs }
 {
     if count > 0 {
-        return Ok(None);
-    }
-    match u32::try_from(i) {
-        Ok(i) => Ok(Some(whole(alloc, Ty::Param(i)))),
-        Err(_) => Err(NoMemory),
+        None
+    } else {
+        Some(whole(alloc, Ty::Param(i)))
     }
 }
 

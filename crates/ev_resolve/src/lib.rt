@@ -10,15 +10,16 @@ mod makers;
 mod marks;
 mod names;
 mod resolving;
+mod scope;
 pub mod signatures;
 mod taken;
 mod types;
 mod used;
 
 pub use bare::{Bare, BareForm, BareTerms, bare_literal, bare_symbol, bare_typed, bare_variable};
-pub use formula_names::is_formula_name;
-pub use names::ScopeVariable;
+pub use formula_names::FormulaNames;
 pub use resolving::resolve;
+pub use scope::{Scope, ScopeVariable};
 pub use signatures::{SymbolTypes, types_of_symbol};
 pub use taken::has_taken_binder;
 pub use used::has_unknown_name;

@@ -8,41 +8,9 @@ ghost use Rattle.ev_resolve.specs.Resolve.{bare_one, bare_two, bare_leaf, type_b
 
 use crate::bare::{Bare, BareTerms, bare_symbol, bare_variable};
 use ev_syntax::mark_names::{OPEN_BRACE, UNION_OVER_WORD};
+use ev_terms::symbols::{AND, APPLY, BIG_INTER, BIG_UNION, EQUAL, NOT, TYPE};
 use ev_terms::{NoMemory, Sym, Ty};
 use std::alloc::Global;
-
-/// Rows of the base symbols that forms of raw trees stand for.
-pub const NOT: u16 = 2;
-
-pub const AND: u16 = 3;
-
-pub const OR: u16 = 4;
-
-pub const FOR_ALL: u16 = 7;
-
-pub const FOR_SOME: u16 = 8;
-
-pub const EQUAL: u16 = 9;
-
-pub const TRUE_VALUE: u16 = 15;
-
-pub const TYPE: u16 = 25;
-
-pub const EMPTY: u16 = 28;
-
-pub const SET: u16 = 29;
-
-pub const MAPS_TO: u16 = 30;
-
-pub const BIG_UNION: u16 = 36;
-
-pub const BIG_INTER: u16 = 37;
-
-pub const INVERSE: u16 = 48;
-
-pub const IMAGE: u16 = 55;
-
-pub const APPLY: u16 = 56;
 
 /// A base symbol without children.
 pub fn leaf(alloc: Global, row: u16, written: Option<Ty>) -> Bare
@@ -102,7 +70,12 @@ pub fn is_member(alloc: Global, value: Bare) -> Result<Bare, NoMemory>
 }
 
 /// `P & z = E`, where z is the variable that bounds so many others.
-pub fn collected(alloc: Global, bound: u32, condition: Bare, value: Bare) -> Result<Bare, NoMemory>
+pub fn collected(
+    alloc: Global,
+    bound: usize,
+    condition: Bare,
+    value: Bare,
+) -> Result<Bare, NoMemory>
     ensures { IfOk result (λ b. b ≡ collected_bare bound condition value) }
 {
     let equation = two(alloc, EQUAL, None, bare_variable(bound), value)?;

@@ -9,76 +9,84 @@ ghost use Rattle.ev_resolve.specs.Reading.{unnamed, quantifier, both, swaps, typ
 ghost use Rattle.ev_resolve.specs.Bare.{bare_of, bare_more, bare_none};
 ghost use Rattle.ev_resolve.specs.inner.BareView.{bares};
 ghost use Rattle.ev_resolve.specs.Resolve.{known_of, resolve, resolve_all, resolve_members, plain_bare, two_bares, word_bare, bare_one, bare_two, bare_z, type_bare, pattern_bare, bind_all, over_bare, collected_bare};
-ghost use Rattle.ev_resolve.specs.declared.names.ScopeVariable.{ScopeVariable};
+ghost use Rattle.ev_resolve.specs.declared.scope.ScopeVariable.{ScopeVariable};
 ghost use Rattle.ev_resolve.specs.inner.Scopes.{scope_of};
 ghost use Rattle.ev_resolve.specs.inner.Marked.{plain_of};
 ghost use Rattle.ev_resolve.specs.inner.Inners.{binders_told, inner_bare};
 
 use crate::bare::{Bare, BareTerms, bare_literal, bare_symbol, bare_typed};
-use crate::bound::{Inner, binders_of, push_pattern};
+use crate::bound::{Inner, binders_of, push_binders, push_pattern, wrap, written_types};
 use crate::calls::call;
-use crate::makers::{
-    APPLY, EMPTY, FOR_ALL, FOR_SOME, IMAGE, INVERSE, MAPS_TO, OR, SET, and_not, collected,
-    is_member, leaf, one, over, two, whole,
-};
+use crate::formula_names::FormulaNames;
+use crate::makers::{and_not, collected, is_member, leaf, one, over, two, whole};
 use crate::marks::{Marked, around_symbol, infix_symbol, prefix_symbol, word_symbol};
-use crate::names::{ScopeVariable, meaning_of};
-use crate::types::{resolve_type, resolve_written};
+use crate::names::meaning_of;
+use crate::scope::{Scope, ScopeVariable};
+use crate::types::resolve_type;
 use ev_syntax::mark_names::{BOOL_SET_WORD, FOR_ALL_SIGN, INT_WORD};
-use ev_syntax::{Binder, Pattern, PatternForm, Raw, RawForm, RawType};
-use ev_terms::{Name, Names, NoMemory, Sym, TryCopy, Ty};
-use ev_typing::Env;
+use ev_syntax::{Binder, FormulaForm, Pattern, PatternForm, Raw, RawType};
+use ev_terms::symbols::{APPLY, EMPTY, FOR_ALL, FOR_SOME, IMAGE, INVERSE, MAPS_TO, OR, SET};
+use ev_terms::{Name, NoMemory, Sym, Ty};
 use std::alloc::Global;
 
-/// A raw tree as a term before its types are inferred, in a scope whose last variable is the innermost. None where a name or a written
-/// type has no meaning there, or a name stands with another number of arguments. Linear in the raw tree, but for the look-up of names.
-#[cycle(resolve)]
-#[tactic(auto, using(crate::proofs::ResolveSteps::walk))]
+/// A raw tree as a term before its types are inferred, in a scope. None where a name or a written type has no meaning there, or a name
+/// stands with another number of arguments. Linear in the raw tree.
 pub fn resolve(
     alloc: Global,
-    env: &Env,
-    params: &Names,
+    names: &FormulaNames<'_>,
     raw: &Raw,
-    scope: &mut Vec<ScopeVariable>,
+    scope: Scope,
 ) -> Result<Option<Bare>, NoMemory>
-    ensures told { IfOk result (λ o. o ≡ resolve params.now (known_of env.now) raw.now (scope_of scope.old.items)) }
-    ensures kept { OnOk result (scope.new.items ≡ scope.old.items) }
+    ensures { IfOk result (λ o. o ≡ resolve names.now.0 (known_of names.now.1) raw.now (scope_of scope)) }
+{
+    let mut scope = scope;
+    resolve_raw(alloc, names, raw, &mut scope)
+}
+
+#[cycle(resolve)]
+#[tactic(auto, using(crate::proofs::ResolveSteps::walk))]
+fn resolve_raw(
+    alloc: Global,
+    names: &FormulaNames<'_>,
+    raw: &Raw,
+    scope: &mut Scope,
+) -> Result<Option<Bare>, NoMemory>
+    ensures told { IfOk result (λ o. o ≡ resolve names.now.0 (known_of names.now.1) raw.now (scope_of scope.old)) }
+    ensures kept { OnOk result (scope.new ≡ scope.old) }
 {
     match raw.form() {
-        RawForm::Word(mark) => resolve_word(alloc, *mark),
-        RawForm::Literal(n) => Ok(Some(bare_literal(*n))),
-        RawForm::Param(i) => Ok(Some(whole(alloc, Ty::Param(*i)))),
-        RawForm::TypeSet(ty) => resolve_type_set(alloc, env, params, ty),
-        RawForm::Call(name, args) => {
-            resolve_call(alloc, env, params, name, args.as_slice(), scope)
+        FormulaForm::Word(mark) => resolve_word(alloc, *mark),
+        FormulaForm::Literal(n) => Ok(Some(bare_literal(*n))),
+        FormulaForm::Param(i) => Ok(Some(whole(alloc, Ty::Param(*i)))),
+        FormulaForm::TypeSet(ty) => resolve_type_set(alloc, names, ty),
+        FormulaForm::Call(name, args) => {
+            resolve_call(alloc, names, name, args.as_slice(), scope)
         }
-        RawForm::Around(mark, e) => {
-            resolve_marked(alloc, env, params, around_symbol(*mark), e, scope)
+        FormulaForm::Around(mark, e) => {
+            resolve_marked(alloc, names, around_symbol(*mark), e, scope)
         }
-        RawForm::Unary(mark, e) => {
-            resolve_marked(alloc, env, params, prefix_symbol(*mark), e, scope)
+        FormulaForm::Unary(mark, e) => {
+            resolve_marked(alloc, names, prefix_symbol(*mark), e, scope)
         }
-        RawForm::Binary(mark, e, f) => {
-            resolve_binary(alloc, env, params, infix_symbol(*mark), e, f, scope)
+        FormulaForm::Binary(mark, e, f) => {
+            resolve_binary(alloc, names, infix_symbol(*mark), e, f, scope)
         }
-        RawForm::Inverse(e) => resolve_inverse(alloc, env, params, e, scope),
-        RawForm::Apply(f, e) => resolve_pair(alloc, env, params, APPLY, f, e, scope),
-        RawForm::Image(r, e) => resolve_pair(alloc, env, params, IMAGE, r, e, scope),
-        RawForm::OfType(e, ty) => resolve_typed(alloc, env, params, e, ty, scope),
-        RawForm::Quantified(mark, binders, e) => {
-            resolve_quantified(alloc, env, params, *mark, binders.as_slice(), e, scope)
+        FormulaForm::Inverse(e) => resolve_inverse(alloc, names, e, scope),
+        FormulaForm::Apply(f, e) => resolve_pair(alloc, names, APPLY, f, e, scope),
+        FormulaForm::Image(r, e) => resolve_pair(alloc, names, IMAGE, r, e, scope),
+        FormulaForm::OfType(e, ty) => resolve_typed(alloc, names, e, ty, scope),
+        FormulaForm::Quantified(mark, binders, e) => {
+            resolve_quantified(alloc, names, *mark, binders.as_slice(), e, scope)
         }
-        RawForm::SetOf(binder, e) => {
-            bind_first(alloc, env, params, SET, binder, &[], &Inner::Body(e), scope)
+        FormulaForm::SetOf(binder, e) => {
+            bind(alloc, names, SET, &[binder], &Inner::Body(e), scope)
         }
-        RawForm::Collected(mark, binders, e, f) => {
-            resolve_collected(alloc, env, params, *mark, binders.as_slice(), e, f, scope)
+        FormulaForm::Collected(mark, binders, e, f) => {
+            resolve_collected(alloc, names, *mark, binders.as_slice(), e, f, scope)
         }
-        RawForm::Lambda(pattern, e, f) => {
-            resolve_lambda(alloc, env, params, pattern, e, f, scope)
-        }
-        RawForm::Members(members) => { resolve_set(alloc, env, params, members.as_slice(), scope) }
-        RawForm::Written(_) => Ok(None),
+        FormulaForm::Lambda(pattern, e, f) => { resolve_lambda(alloc, names, pattern, e, f, scope) }
+        FormulaForm::Members(members) => { resolve_set(alloc, names, members.as_slice(), scope) }
+        FormulaForm::Written(_) => Ok(None),
     }
 }
 
@@ -117,13 +125,12 @@ fn with_entry(
 
 fn resolve_type_set(
     alloc: Global,
-    env: &Env,
-    params: &Names,
+    names: &FormulaNames<'_>,
     ty: &RawType,
 ) -> Result<Option<Bare>, NoMemory>
-    ensures { IfOk result (λ o. o ≡ option_map type_bare (type_of_raw params.now (known_of env.now) ty.now)) }
+    ensures { IfOk result (λ o. o ≡ option_map type_bare (type_of_raw names.now.0 (known_of names.now.1) ty.now)) }
 {
-    match resolve_type(alloc, env, params, ty)? {
+    match resolve_type(alloc, names, ty)? {
         Some(ty) => Ok(Some(whole(alloc, ty))),
         None => Ok(None),
     }
@@ -133,20 +140,19 @@ fn resolve_type_set(
 #[tactic(auto, using(crate::proofs::ResolveSteps::walk))]
 fn resolve_call(
     alloc: Global,
-    env: &Env,
-    params: &Names,
+    names: &FormulaNames<'_>,
     name: &Name,
     args: &[Raw],
-    scope: &mut Vec<ScopeVariable>,
+    scope: &mut Scope,
 ) -> Result<Option<Bare>, NoMemory>
-    ensures told { IfOk result (λ o. o ≡ resolve params.now (known_of env.now) (raw_call name.now (raws args.now)) (scope_of scope.old.items)) }
-    ensures kept { OnOk result (scope.new.items ≡ scope.old.items) }
+    ensures told { IfOk result (λ o. o ≡ resolve names.now.0 (known_of names.now.1) (raw_call name.now (raws args.now)) (scope_of scope.old)) }
+    ensures kept { OnOk result (scope.new ≡ scope.old) }
 {
     let count = args.len();
-    let Some(args) = resolve_all(alloc, env, params, args, scope)? else {
+    let Some(args) = resolve_all(alloc, names, args, scope)? else {
         return Ok(None)
     };
-    let meant = meaning_of(alloc, env, params, scope.as_slice(), name)?;
+    let meant = meaning_of(alloc, names, scope, name)?;
     call(alloc, meant, name, count, args)
 }
 
@@ -154,17 +160,16 @@ fn resolve_call(
 #[tactic(auto, using(crate::proofs::ResolveSteps::walk))]
 fn resolve_all(
     alloc: Global,
-    env: &Env,
-    params: &Names,
+    names: &FormulaNames<'_>,
     list: &[Raw],
-    scope: &mut Vec<ScopeVariable>,
+    scope: &mut Scope,
 ) -> Result<Option<BareTerms>, NoMemory>
-    ensures told { IfOk result (λ o. option_map bares o ≡ resolve_all params.now (known_of env.now) (raws list.now) (scope_of scope.old.items)) }
-    ensures kept { OnOk result (scope.new.items ≡ scope.old.items) }
+    ensures told { IfOk result (λ o. option_map bares o ≡ resolve_all names.now.0 (known_of names.now.1) (raws list.now) (scope_of scope.old)) }
+    ensures kept { OnOk result (scope.new ≡ scope.old) }
 {
     let mut bares = BareTerms::new(alloc);
     for raw in list {
-        match resolve(alloc, env, params, raw, scope)? {
+        match resolve_raw(alloc, names, raw, scope)? {
             Some(bare) => bares.push(alloc, bare)?,
             None => return Ok(None),
         }
@@ -177,16 +182,15 @@ fn resolve_all(
 #[tactic(auto, using(crate::proofs::ResolveSteps::walk))]
 fn resolve_marked(
     alloc: Global,
-    env: &Env,
-    params: &Names,
+    names: &FormulaNames<'_>,
     entry: Option<Marked>,
     operand: &Raw,
-    scope: &mut Vec<ScopeVariable>,
+    scope: &mut Scope,
 ) -> Result<Option<Bare>, NoMemory>
-    ensures told { IfOk result (λ o. o ≡ option_and_then (λ b. plain_bare (option_map plain_of entry) (bare_more b bare_none)) (resolve params.now (known_of env.now) operand.now (scope_of scope.old.items))) }
-    ensures kept { OnOk result (scope.new.items ≡ scope.old.items) }
+    ensures told { IfOk result (λ o. o ≡ option_and_then (λ b. plain_bare (option_map plain_of entry) (bare_more b bare_none)) (resolve names.now.0 (known_of names.now.1) operand.now (scope_of scope.old))) }
+    ensures kept { OnOk result (scope.new ≡ scope.old) }
 {
-    let Some(operand) = resolve(alloc, env, params, operand, scope)? else {
+    let Some(operand) = resolve_raw(alloc, names, operand, scope)? else {
         return Ok(None)
     };
     let mut children = BareTerms::new(alloc);
@@ -198,21 +202,20 @@ fn resolve_marked(
 #[tactic(auto, using(crate::proofs::ResolveSteps::walk))]
 fn resolve_binary(
     alloc: Global,
-    env: &Env,
-    params: &Names,
+    names: &FormulaNames<'_>,
     entry: Option<Marked>,
     left: &Raw,
     right: &Raw,
-    scope: &mut Vec<ScopeVariable>,
+    scope: &mut Scope,
 ) -> Result<Option<Bare>, NoMemory>
     ensures told { IfOk result (λ o. o ≡ option_and_then (plain_bare (option_map plain_of entry)) (both (two_bares (swaps (option_map plain_of entry)))
-        (resolve params.now (known_of env.now) left.now (scope_of scope.old.items)) (resolve params.now (known_of env.now) right.now (scope_of scope.old.items)))) }
-    ensures kept { OnOk result (scope.new.items ≡ scope.old.items) }
+        (resolve names.now.0 (known_of names.now.1) left.now (scope_of scope.old)) (resolve names.now.0 (known_of names.now.1) right.now (scope_of scope.old)))) }
+    ensures kept { OnOk result (scope.new ≡ scope.old) }
 {
-    let Some(left) = resolve(alloc, env, params, left, scope)? else {
+    let Some(left) = resolve_raw(alloc, names, left, scope)? else {
         return Ok(None)
     };
-    let Some(right) = resolve(alloc, env, params, right, scope)? else {
+    let Some(right) = resolve_raw(alloc, names, right, scope)? else {
         return Ok(None)
     };
     let children = operands(alloc, entry, left, right)?;
@@ -247,15 +250,14 @@ fn operands(
 #[tactic(auto, using(crate::proofs::ResolveSteps::walk))]
 fn resolve_inverse(
     alloc: Global,
-    env: &Env,
-    params: &Names,
+    names: &FormulaNames<'_>,
     relation: &Raw,
-    scope: &mut Vec<ScopeVariable>,
+    scope: &mut Scope,
 ) -> Result<Option<Bare>, NoMemory>
-    ensures told { IfOk result (λ o. o ≡ option_map (bare_one base.inverse_sym None) (resolve params.now (known_of env.now) relation.now (scope_of scope.old.items))) }
-    ensures kept { OnOk result (scope.new.items ≡ scope.old.items) }
+    ensures told { IfOk result (λ o. o ≡ option_map (bare_one base.inverse_sym None) (resolve names.now.0 (known_of names.now.1) relation.now (scope_of scope.old))) }
+    ensures kept { OnOk result (scope.new ≡ scope.old) }
 {
-    match resolve(alloc, env, params, relation, scope)? {
+    match resolve_raw(alloc, names, relation, scope)? {
         Some(relation) => Ok(Some(one(alloc, INVERSE, None, relation)?)),
         None => Ok(None),
     }
@@ -266,20 +268,19 @@ fn resolve_inverse(
 #[tactic(auto, using(crate::proofs::ResolveSteps::walk))]
 fn resolve_pair(
     alloc: Global,
-    env: &Env,
-    params: &Names,
+    names: &FormulaNames<'_>,
     row: u16,
     left: &Raw,
     right: &Raw,
-    scope: &mut Vec<ScopeVariable>,
+    scope: &mut Scope,
 ) -> Result<Option<Bare>, NoMemory>
-    ensures told { IfOk result (λ o. o ≡ both (bare_two (Base row) None) (resolve params.now (known_of env.now) left.now (scope_of scope.old.items)) (resolve params.now (known_of env.now) right.now (scope_of scope.old.items))) }
-    ensures kept { OnOk result (scope.new.items ≡ scope.old.items) }
+    ensures told { IfOk result (λ o. o ≡ both (bare_two (Base row) None) (resolve names.now.0 (known_of names.now.1) left.now (scope_of scope.old)) (resolve names.now.0 (known_of names.now.1) right.now (scope_of scope.old))) }
+    ensures kept { OnOk result (scope.new ≡ scope.old) }
 {
-    let Some(left) = resolve(alloc, env, params, left, scope)? else {
+    let Some(left) = resolve_raw(alloc, names, left, scope)? else {
         return Ok(None)
     };
-    let Some(right) = resolve(alloc, env, params, right, scope)? else {
+    let Some(right) = resolve_raw(alloc, names, right, scope)? else {
         return Ok(None)
     };
     Ok(Some(two(alloc, row, None, left, right)?))
@@ -289,19 +290,18 @@ fn resolve_pair(
 #[tactic(auto, using(crate::proofs::ResolveSteps::walk))]
 fn resolve_typed(
     alloc: Global,
-    env: &Env,
-    params: &Names,
+    names: &FormulaNames<'_>,
     raw: &Raw,
     ty: &RawType,
-    scope: &mut Vec<ScopeVariable>,
+    scope: &mut Scope,
 ) -> Result<Option<Bare>, NoMemory>
-    ensures told { IfOk result (λ o. o ≡ both bare_of (resolve params.now (known_of env.now) raw.now (scope_of scope.old.items)) (type_of_raw params.now (known_of env.now) ty.now)) }
-    ensures kept { OnOk result (scope.new.items ≡ scope.old.items) }
+    ensures told { IfOk result (λ o. o ≡ both bare_of (resolve names.now.0 (known_of names.now.1) raw.now (scope_of scope.old)) (type_of_raw names.now.0 (known_of names.now.1) ty.now)) }
+    ensures kept { OnOk result (scope.new ≡ scope.old) }
 {
-    let Some(bare) = resolve(alloc, env, params, raw, scope)? else {
+    let Some(bare) = resolve_raw(alloc, names, raw, scope)? else {
         return Ok(None)
     };
-    let Some(ty) = resolve_type(alloc, env, params, ty)? else {
+    let Some(ty) = resolve_type(alloc, names, ty)? else {
         return Ok(None)
     };
     Ok(Some(bare_typed(alloc, bare, ty)?))
@@ -311,22 +311,20 @@ fn resolve_typed(
 #[tactic(auto, using(crate::proofs::ResolveSteps::walk))]
 fn resolve_quantified(
     alloc: Global,
-    env: &Env,
-    params: &Names,
+    names: &FormulaNames<'_>,
     mark: u16,
     binders: &[Binder],
     body: &Raw,
-    scope: &mut Vec<ScopeVariable>,
+    scope: &mut Scope,
 ) -> Result<Option<Bare>, NoMemory>
-    ensures told { IfOk result (λ o. o ≡ resolve params.now (known_of env.now) (quantified mark binders.now body.now) (scope_of scope.old.items)) }
-    ensures kept { OnOk result (scope.new.items ≡ scope.old.items) }
+    ensures told { IfOk result (λ o. o ≡ resolve names.now.0 (known_of names.now.1) (quantified mark binders.now body.now) (scope_of scope.old)) }
+    ensures kept { OnOk result (scope.new ≡ scope.old) }
 {
     let row = quantifier_row(mark);
     let binders = binders_of(alloc, binders)?;
     bind(
         alloc,
-        env,
-        params,
+        names,
         row,
         binders.as_slice(),
         &Inner::Body(body),
@@ -350,49 +348,24 @@ fn quantifier_row(mark: u16) -> u16
 #[tactic(auto, using(crate::proofs::ResolveSteps::walk))]
 fn bind(
     alloc: Global,
-    env: &Env,
-    params: &Names,
+    names: &FormulaNames<'_>,
     row: u16,
     binders: &[&Binder],
     inner: &Inner<'_>,
-    scope: &mut Vec<ScopeVariable>,
+    scope: &mut Scope,
 ) -> Result<Option<Bare>, NoMemory>
-    ensures told { IfOk result (λ o. o ≡ bind_all params.now (known_of env.now) (Base row) (binders_told binders.now) (inner_bare params.now (known_of env.now) inner.now) (scope_of scope.old.items)) }
-    ensures kept { OnOk result (scope.new.items ≡ scope.old.items) }
+    ensures told { IfOk result (λ o. o ≡ bind_all names.now.0 (known_of names.now.1) (Base row) (binders_told binders.now) (inner_bare names.now.0 (known_of names.now.1) inner.now) (scope_of scope.old)) }
+    ensures kept { OnOk result (scope.new ≡ scope.old) }
 {
-    match binders {
-        [] => resolve_inner(alloc, env, params, inner, scope),
-        [first, rest @ ..] => bind_first(alloc, env, params, row, first, rest, inner, scope),
-    }
-}
-
-#[cycle(resolve)]
-#[tactic(auto, using(crate::proofs::ResolveSteps::walk))]
-fn bind_first(
-    alloc: Global,
-    env: &Env,
-    params: &Names,
-    row: u16,
-    first: &Binder,
-    rest: &[&Binder],
-    inner: &Inner<'_>,
-    scope: &mut Vec<ScopeVariable>,
-) -> Result<Option<Bare>, NoMemory>
-    ensures told { IfOk result (λ o. o ≡ bind_all params.now (known_of env.now) (Base row) (first.now ∷ binders_told rest.now) (inner_bare params.now (known_of env.now) inner.now) (scope_of scope.old.items)) }
-    ensures kept { OnOk result (scope.new.items ≡ scope.old.items) }
-{
-    let Some(written) = resolve_written(alloc, env, params, &first.written)? else {
+    let Some(types) = written_types(alloc, names, binders)? else {
         return Ok(None)
     };
-    let name = Some(first.name.try_copy(alloc)?);
-    scope.push(ScopeVariable {
-        name,
-        is_predicate: false,
-    })?;
-    let body = bind(alloc, env, params, row, rest, inner, scope)?;
-    let _bound = scope.pop();
+    let count = scope.len();
+    push_binders(alloc, scope, binders)?;
+    let body = resolve_inner(alloc, names, inner, scope)?;
+    scope.truncate(count);
     match body {
-        Some(body) => Ok(Some(one(alloc, row, written, body)?)),
+        Some(body) => Ok(Some(wrap(alloc, row, types, body)?)),
         None => Ok(None),
     }
 }
@@ -401,21 +374,20 @@ fn bind_first(
 #[tactic(auto, using(crate::proofs::ResolveSteps::walk))]
 fn resolve_inner(
     alloc: Global,
-    env: &Env,
-    params: &Names,
+    names: &FormulaNames<'_>,
     inner: &Inner<'_>,
-    scope: &mut Vec<ScopeVariable>,
+    scope: &mut Scope,
 ) -> Result<Option<Bare>, NoMemory>
-    ensures told { IfOk result (λ o. o ≡ inner_bare params.now (known_of env.now) inner.now (scope_of scope.old.items)) }
-    ensures kept { OnOk result (scope.new.items ≡ scope.old.items) }
+    ensures told { IfOk result (λ o. o ≡ inner_bare names.now.0 (known_of names.now.1) inner.now (scope_of scope.old)) }
+    ensures kept { OnOk result (scope.new ≡ scope.old) }
 {
     match inner {
-        Inner::Body(body) => resolve(alloc, env, params, body, scope),
+        Inner::Body(body) => resolve_raw(alloc, names, body, scope),
         Inner::Collected(condition, value, bound) => {
-            resolve_condition(alloc, env, params, condition, value, *bound, scope)
+            resolve_condition(alloc, names, condition, value, *bound, scope)
         }
         Inner::Lambda(pattern, condition, value, bound) => {
-            resolve_mapping(alloc, env, params, pattern, condition, value, *bound, scope)
+            resolve_mapping(alloc, names, pattern, condition, value, *bound, scope)
         }
     }
 }
@@ -425,20 +397,19 @@ fn resolve_inner(
 #[tactic(auto, using(crate::proofs::ResolveSteps::walk))]
 fn resolve_condition(
     alloc: Global,
-    env: &Env,
-    params: &Names,
+    names: &FormulaNames<'_>,
     condition: &Raw,
     value: &Raw,
-    bound: u32,
-    scope: &mut Vec<ScopeVariable>,
+    bound: usize,
+    scope: &mut Scope,
 ) -> Result<Option<Bare>, NoMemory>
-    ensures told { IfOk result (λ o. o ≡ both (collected_bare bound) (resolve params.now (known_of env.now) condition.now (scope_of scope.old.items)) (resolve params.now (known_of env.now) value.now (scope_of scope.old.items))) }
-    ensures kept { OnOk result (scope.new.items ≡ scope.old.items) }
+    ensures told { IfOk result (λ o. o ≡ both (collected_bare bound) (resolve names.now.0 (known_of names.now.1) condition.now (scope_of scope.old)) (resolve names.now.0 (known_of names.now.1) value.now (scope_of scope.old))) }
+    ensures kept { OnOk result (scope.new ≡ scope.old) }
 {
-    let Some(condition) = resolve(alloc, env, params, condition, scope)? else {
+    let Some(condition) = resolve_raw(alloc, names, condition, scope)? else {
         return Ok(None)
     };
-    let Some(value) = resolve(alloc, env, params, value, scope)? else {
+    let Some(value) = resolve_raw(alloc, names, value, scope)? else {
         return Ok(None)
     };
     Ok(Some(collected(alloc, bound, condition, value)?))
@@ -449,25 +420,24 @@ fn resolve_condition(
 #[tactic(auto, using(crate::proofs::ResolveSteps::walk))]
 fn resolve_mapping(
     alloc: Global,
-    env: &Env,
-    params: &Names,
+    names: &FormulaNames<'_>,
     pattern: &Pattern,
     condition: &Raw,
     value: &Raw,
-    bound: u32,
-    scope: &mut Vec<ScopeVariable>,
+    bound: usize,
+    scope: &mut Scope,
 ) -> Result<Option<Bare>, NoMemory>
-    ensures told { IfOk result (λ o. o ≡ both (collected_bare bound) (resolve params.now (known_of env.now) condition.now (scope_of scope.old.items))
-        (both (bare_two base.maps_to_sym None) (pattern_bare params.now (known_of env.now) pattern.now (scope_of scope.old.items)) (resolve params.now (known_of env.now) value.now (scope_of scope.old.items)))) }
-    ensures kept { OnOk result (scope.new.items ≡ scope.old.items) }
+    ensures told { IfOk result (λ o. o ≡ both (collected_bare bound) (resolve names.now.0 (known_of names.now.1) condition.now (scope_of scope.old))
+        (both (bare_two base.maps_to_sym None) (pattern_bare names.now.0 (known_of names.now.1) pattern.now (scope_of scope.old)) (resolve names.now.0 (known_of names.now.1) value.now (scope_of scope.old)))) }
+    ensures kept { OnOk result (scope.new ≡ scope.old) }
 {
-    let Some(condition) = resolve(alloc, env, params, condition, scope)? else {
+    let Some(condition) = resolve_raw(alloc, names, condition, scope)? else {
         return Ok(None)
     };
-    let Some(argument) = resolve_pattern(alloc, env, params, pattern, scope.as_slice())? else {
+    let Some(argument) = resolve_pattern(alloc, names, pattern, scope)? else {
         return Ok(None)
     };
-    let Some(value) = resolve(alloc, env, params, value, scope)? else {
+    let Some(value) = resolve_raw(alloc, names, value, scope)? else {
         return Ok(None)
     };
     let mapping = two(alloc, MAPS_TO, None, argument, value)?;
@@ -478,21 +448,20 @@ fn resolve_mapping(
 #[tactic(auto, using(crate::proofs::ResolveSteps::walk))]
 fn resolve_collected(
     alloc: Global,
-    env: &Env,
-    params: &Names,
+    names: &FormulaNames<'_>,
     mark: u16,
     binders: &[Binder],
     condition: &Raw,
     value: &Raw,
-    scope: &mut Vec<ScopeVariable>,
+    scope: &mut Scope,
 ) -> Result<Option<Bare>, NoMemory>
-    ensures told { IfOk result (λ o. o ≡ resolve params.now (known_of env.now) (raw_collected mark binders.now condition.now value.now) (scope_of scope.old.items)) }
-    ensures kept { OnOk result (scope.new.items ≡ scope.old.items) }
+    ensures told { IfOk result (λ o. o ≡ resolve names.now.0 (known_of names.now.1) (raw_collected mark binders.now condition.now value.now) (scope_of scope.old)) }
+    ensures kept { OnOk result (scope.new ≡ scope.old) }
 {
-    let bound = count_of(binders.len())?;
+    let bound = binders.len();
     let binders = binders_of(alloc, binders)?;
     let inner = Inner::Collected(condition, value, bound);
-    match resolve_members_of(alloc, env, params, binders.as_slice(), &inner, scope)? {
+    match resolve_members_of(alloc, names, binders.as_slice(), &inner, scope)? {
         Some(set) => Ok(Some(over(alloc, mark, set)?)),
         None => Ok(None),
     }
@@ -502,21 +471,20 @@ fn resolve_collected(
 #[tactic(auto, using(crate::proofs::ResolveSteps::walk))]
 fn resolve_lambda(
     alloc: Global,
-    env: &Env,
-    params: &Names,
+    names: &FormulaNames<'_>,
     pattern: &Pattern,
     condition: &Raw,
     value: &Raw,
-    scope: &mut Vec<ScopeVariable>,
+    scope: &mut Scope,
 ) -> Result<Option<Bare>, NoMemory>
-    ensures told { IfOk result (λ o. o ≡ resolve params.now (known_of env.now) (raw_lambda pattern.now condition.now value.now) (scope_of scope.old.items)) }
-    ensures kept { OnOk result (scope.new.items ≡ scope.old.items) }
+    ensures told { IfOk result (λ o. o ≡ resolve names.now.0 (known_of names.now.1) (raw_lambda pattern.now condition.now value.now) (scope_of scope.old)) }
+    ensures kept { OnOk result (scope.new ≡ scope.old) }
 {
     let mut binders = Vec::new(alloc);
     push_pattern(alloc, pattern, &mut binders)?;
-    let bound = count_of(binders.len())?;
+    let bound = binders.len();
     let inner = Inner::Lambda(pattern, condition, value, bound);
-    resolve_members_of(alloc, env, params, binders.as_slice(), &inner, scope)
+    resolve_members_of(alloc, names, binders.as_slice(), &inner, scope)
 }
 
 /// The set of all z that are values for some bound names.
@@ -524,18 +492,17 @@ fn resolve_lambda(
 #[tactic(auto, using(crate::proofs::ResolveSteps::walk))]
 fn resolve_members_of(
     alloc: Global,
-    env: &Env,
-    params: &Names,
+    names: &FormulaNames<'_>,
     binders: &[&Binder],
     inner: &Inner<'_>,
-    scope: &mut Vec<ScopeVariable>,
+    scope: &mut Scope,
 ) -> Result<Option<Bare>, NoMemory>
-    ensures told { IfOk result (λ o. o ≡ option_map (bare_one base.set_sym None) (bind_all params.now (known_of env.now) base.for_some_sym (binders_told binders.now) (inner_bare params.now (known_of env.now) inner.now) (unnamed Int ∷ scope_of scope.old.items))) }
-    ensures kept { OnOk result (scope.new.items ≡ scope.old.items) }
+    ensures told { IfOk result (λ o. o ≡ option_map (bare_one base.set_sym None) (bind_all names.now.0 (known_of names.now.1) base.for_some_sym (binders_told binders.now) (inner_bare names.now.0 (known_of names.now.1) inner.now) (unnamed Int ∷ scope_of scope.old))) }
+    ensures kept { OnOk result (scope.new ≡ scope.old) }
 {
-    push_unnamed(scope)?;
-    let body = bind(alloc, env, params, FOR_SOME, binders, inner, scope)?;
-    let _bound = scope.pop();
+    push_unnamed(alloc, scope)?;
+    let body = bind(alloc, names, FOR_SOME, binders, inner, scope)?;
+    scope.pop();
     match body {
         Some(body) => Ok(Some(one(alloc, SET, None, body)?)),
         None => Ok(None),
@@ -544,47 +511,38 @@ fn resolve_members_of(
 
 /// A new variable, which no text can name.
 #[tactic(auto, using(crate::proofs::ResolveSteps::walk))]
-fn push_unnamed(scope: &mut Vec<ScopeVariable>) -> Result<(), NoMemory>
-    ensures told { OnOk result (scope_of scope.new.items ≡ unnamed Int ∷ scope_of scope.old.items) }
-    ensures back { OnOk result ((v : ScopeVariable) → (vs : List ScopeVariable) → scope.new.items ≡ vs ++ v ∷ [] → vs ≡ scope.old.items) }
+fn push_unnamed(alloc: Global, scope: &mut Scope) -> Result<(), NoMemory>
+    ensures told { OnOk result (scope_of scope.new ≡ unnamed Int ∷ scope_of scope.old) }
+    ensures back { OnOk result ((v : ScopeVariable) → (vs : List ScopeVariable) → scope.new ≡ vs ++ v ∷ [] → vs ≡ scope.old) }
 {
-    scope.push(ScopeVariable {
-        name: None,
-        is_predicate: false,
-    })?;
-    Ok(())
-}
-
-/// A number of bound names. There are fewer than 2^32, as memory has no room for more.
-fn count_of(count: usize) -> Result<u32, NoMemory>
-    ensures { IfOk result (λ n. n ≡ count) }
-{
-    match u32::try_from(count) {
-        Ok(count) => Ok(count),
-        Err(_) => Err(NoMemory),
-    }
+    scope.push(
+        alloc,
+        ScopeVariable {
+            name: None,
+            is_predicate: false,
+        },
+    )
 }
 
 /// A pattern as an expression over its names.
 fn resolve_pattern(
     alloc: Global,
-    env: &Env,
-    params: &Names,
+    names: &FormulaNames<'_>,
     pattern: &Pattern,
-    scope: &[ScopeVariable],
+    scope: &Scope,
 ) -> Result<Option<Bare>, NoMemory>
-    ensures { IfOk result (λ o. o ≡ pattern_bare params.now (known_of env.now) pattern.now (scope_of scope.now)) }
+    ensures { IfOk result (λ o. o ≡ pattern_bare names.now.0 (known_of names.now.1) pattern.now (scope_of scope.now)) }
 {
     match pattern.form() {
         PatternForm::Bound(binder) => {
-            let meant = meaning_of(alloc, env, params, scope, &binder.name)?;
+            let meant = meaning_of(alloc, names, scope, &binder.name)?;
             call(alloc, meant, &binder.name, 0, BareTerms::new(alloc))
         }
         PatternForm::Pair(first, second) => {
-            let Some(first) = resolve_pattern(alloc, env, params, first, scope)? else {
+            let Some(first) = resolve_pattern(alloc, names, first, scope)? else {
                 return Ok(None)
             };
-            let Some(second) = resolve_pattern(alloc, env, params, second, scope)? else {
+            let Some(second) = resolve_pattern(alloc, names, second, scope)? else {
                 return Ok(None)
             };
             Ok(Some(two(alloc, MAPS_TO, None, first, second)?))
@@ -597,17 +555,16 @@ fn resolve_pattern(
 #[tactic(auto, using(crate::proofs::ResolveSteps::walk))]
 fn resolve_set(
     alloc: Global,
-    env: &Env,
-    params: &Names,
+    names: &FormulaNames<'_>,
     members: &[Raw],
-    scope: &mut Vec<ScopeVariable>,
+    scope: &mut Scope,
 ) -> Result<Option<Bare>, NoMemory>
-    ensures told { IfOk result (λ o. o ≡ resolve params.now (known_of env.now) (raw_members (raws members.now)) (scope_of scope.old.items)) }
-    ensures kept { OnOk result (scope.new.items ≡ scope.old.items) }
+    ensures told { IfOk result (λ o. o ≡ resolve names.now.0 (known_of names.now.1) (raw_members (raws members.now)) (scope_of scope.old)) }
+    ensures kept { OnOk result (scope.new ≡ scope.old) }
 {
     match members {
         [] => Ok(Some(leaf(alloc, EMPTY, None))),
-        [first, rest @ ..] => resolve_some(alloc, env, params, first, rest, scope),
+        [first, rest @ ..] => resolve_some(alloc, names, first, rest, scope),
     }
 }
 
@@ -616,18 +573,17 @@ fn resolve_set(
 #[tactic(auto, using(crate::proofs::ResolveSteps::walk))]
 fn resolve_some(
     alloc: Global,
-    env: &Env,
-    params: &Names,
+    names: &FormulaNames<'_>,
     first: &Raw,
     rest: &[Raw],
-    scope: &mut Vec<ScopeVariable>,
+    scope: &mut Scope,
 ) -> Result<Option<Bare>, NoMemory>
-    ensures told { IfOk result (λ o. o ≡ option_map (bare_one base.set_sym None) (option_and_then (λ b. resolve_members params.now (known_of env.now) (raws rest.now) (unnamed Int ∷ scope_of scope.old.items) (bare_z b)) (resolve params.now (known_of env.now) first.now (unnamed Int ∷ scope_of scope.old.items)))) }
-    ensures kept { OnOk result (scope.new.items ≡ scope.old.items) }
+    ensures told { IfOk result (λ o. o ≡ option_map (bare_one base.set_sym None) (option_and_then (λ b. resolve_members names.now.0 (known_of names.now.1) (raws rest.now) (unnamed Int ∷ scope_of scope.old) (bare_z b)) (resolve names.now.0 (known_of names.now.1) first.now (unnamed Int ∷ scope_of scope.old)))) }
+    ensures kept { OnOk result (scope.new ≡ scope.old) }
 {
-    push_unnamed(scope)?;
-    let body = resolve_members(alloc, env, params, first, rest, scope)?;
-    let _bound = scope.pop();
+    push_unnamed(alloc, scope)?;
+    let body = resolve_members(alloc, names, first, rest, scope)?;
+    scope.pop();
     match body {
         Some(body) => Ok(Some(one(alloc, SET, None, body)?)),
         None => Ok(None),
@@ -639,21 +595,20 @@ fn resolve_some(
 #[tactic(auto, using(crate::proofs::ResolveSteps::walk))]
 fn resolve_members(
     alloc: Global,
-    env: &Env,
-    params: &Names,
+    names: &FormulaNames<'_>,
     first: &Raw,
     rest: &[Raw],
-    scope: &mut Vec<ScopeVariable>,
+    scope: &mut Scope,
 ) -> Result<Option<Bare>, NoMemory>
-    ensures told { IfOk result (λ o. o ≡ option_and_then (λ b. resolve_members params.now (known_of env.now) (raws rest.now) (scope_of scope.old.items) (bare_z b)) (resolve params.now (known_of env.now) first.now (scope_of scope.old.items))) }
-    ensures kept { OnOk result (scope.new.items ≡ scope.old.items) }
+    ensures told { IfOk result (λ o. o ≡ option_and_then (λ b. resolve_members names.now.0 (known_of names.now.1) (raws rest.now) (scope_of scope.old) (bare_z b)) (resolve names.now.0 (known_of names.now.1) first.now (scope_of scope.old))) }
+    ensures kept { OnOk result (scope.new ≡ scope.old) }
 {
-    let Some(member) = resolve(alloc, env, params, first, scope)? else {
+    let Some(member) = resolve_raw(alloc, names, first, scope)? else {
         return Ok(None)
     };
     let mut front = is_member(alloc, member)?;
     for raw in rest {
-        let Some(member) = resolve(alloc, env, params, raw, scope)? else {
+        let Some(member) = resolve_raw(alloc, names, raw, scope)? else {
             return Ok(None)
         };
         let member = is_member(alloc, member)?;

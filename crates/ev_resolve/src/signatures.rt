@@ -1,17 +1,20 @@
 //! The signatures of symbols.
-ghost use Rattle.std.specs.Prelude.{◌≡◌, ◌+◌, ◌≤◌, Some, None, map, find, bytes_eq, flat_map, option_map, if◌then◌else◌, IfOk, ◌∷◌, [], ◌++◌};
-ghost use Rattle.std.specs.Option.{option_copied, option_and_then};
+ghost use Rattle.std.specs.Prelude.{◌≡◌, ◌+◌, ◌≤◌, Some, None, map, bytes_eq, flat_map, option_map, if◌then◌else◌, IfOk, ◌∷◌, [], ◌++◌};
+ghost use Rattle.std.specs.Option.{option_and_then};
 ghost use Rattle.ev_terms.specs.declared.types.Ty.{Param};
-ghost use Rattle.ev_terms.specs.Types.{pow, prod, type_list};
+ghost use Rattle.ev_terms.specs.Types.{prod, type_list};
 ghost use Rattle.ev_typing.specs.declared.typing.Var.{Var};
-ghost use Rattle.ev_typing.specs.Table.{relation, form_type, children_types, row_profile};
+ghost use Rattle.ev_typing.specs.Table.{form_type, children_types, row_profile};
 ghost use Rattle.ev_typing.specs.TypeLists.{own_types};
 ghost use Rattle.ev_typing.specs.Profiles.{base_profile};
 ghost use Rattle.ev_typing.specs.Env.{look_up, find_symbol, con_symbols, symbols, con_profile, des_profile, signature_profile, symbol_profile, own_type, profile};
 ghost use Rattle.ev_resolve.specs.inner.Signing.{profile_told};
 
 use ev_terms::{ListOf, Name, NoMemory, Shared, Sym, TryCopy, Ty, Tys};
-use ev_typing::{Children, Con, DataDecl, Entry, Env, Form, Row, Signature, Var, base_symbols};
+use ev_typing::{
+    Children, Con, DataDecl, Entry, Env, Form, Row, Signature, Var, base_symbols, field_of,
+    pair_of, relation_of, set_of,
+};
 use std::alloc::Global;
 
 /// A symbol's number of type parameters, the types of its children and its own.
@@ -69,28 +72,6 @@ fn child_types(alloc: Global, children: Children) -> Result<ListOf<Ty>, NoMemory
     Ok(args)
 }
 
-#[tactic(auto, using(crate::proofs::Signing::forms))]
-fn set_of(alloc: Global, ty: Ty) -> Result<Ty, NoMemory>
-    ensures { IfOk result (λ a. a ≡ pow ty) }
-{
-    Ok(Ty::Pow(Shared::new(alloc, ty)?))
-}
-
-#[tactic(auto, using(crate::proofs::Signing::forms))]
-fn pair_of(alloc: Global, first: Ty, second: Ty) -> Result<Ty, NoMemory>
-    ensures { IfOk result (λ a. a ≡ prod first second) }
-{
-    let first = Shared::new(alloc, first)?;
-    let second = Shared::new(alloc, second)?;
-    Ok(Ty::Prod(first, second))
-}
-
-fn relation_of(alloc: Global, from: Ty, to: Ty) -> Result<Ty, NoMemory>
-    ensures { IfOk result (λ a. a ≡ relation from to) }
-{
-    set_of(alloc, pair_of(alloc, from, to)?)
-}
-
 fn pair_of_params(alloc: Global) -> Result<Ty, NoMemory>
     ensures { IfOk result (λ a. a ≡ prod (Param 0) (Param 1)) }
 {
@@ -125,7 +106,6 @@ fn type_of_form(alloc: Global, form: Form) -> Result<Ty, NoMemory>
 fn user_types(alloc: Global, env: &Env, name: &Name) -> Result<Option<SymbolTypes>, NoMemory>
     ensures { IfOk result (λ o. option_map profile_told o ≡ option_map symbol_profile (find_symbol env.now name.now)) }
 {
-    let _opened = env.count();
     match env.symbol(name) {
         Some(entry) => entry_types(alloc, entry, name),
         None => Ok(None),
@@ -212,18 +192,6 @@ fn con_types(
         Some(field) => Ok(Some(destructor_types(alloc, decl, field)?)),
         None => Ok(None),
     }
-}
-
-#[tactic(auto, using(crate::proofs::Signing::walk))]
-fn field_of<'a>(con: &'a Con, name: &Name) -> Option<&'a Var>
-    ensures { option_copied result ≡ find (λ (f : Var). bytes_eq f.name name.now) con.now.fields }
-{
-    for field in con.fields.as_slice() {
-        if field.name == *name {
-            return Some(field);
-        }
-    }
-    None
 }
 
 fn constructor_types(alloc: Global, decl: &DataDecl, con: &Con) -> Result<SymbolTypes, NoMemory>

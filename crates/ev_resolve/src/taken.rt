@@ -7,74 +7,72 @@ ghost use Rattle.ev_resolve.specs.UsedNames.{is_formula_name, names_of, all_bind
 ghost use Rattle.ev_resolve.specs.Resolve.{known_of};
 ghost use Rattle.ev_resolve.specs.TakenNames.{takes_name};
 
-use crate::formula_names::is_formula_name;
-use ev_syntax::{Binder, Pattern, PatternForm, Raw, RawForm};
-use ev_terms::Names;
-use ev_typing::Env;
+use crate::formula_names::FormulaNames;
+use ev_syntax::{Binder, FormulaForm, Pattern, PatternForm, Raw};
 
 /// Whether some binder of a raw tree has a formula name. Linear in the tree.
 #[cycle(taken)]
 #[tactic(auto, using(crate::proofs::Taking::walk))]
-pub fn has_taken_binder(env: &Env, params: &Names, raw: &Raw) -> bool
-    ensures { result ≡ takes_name env.now params.now raw.now }
+pub fn has_taken_binder(names: &FormulaNames<'_>, raw: &Raw) -> bool
+    ensures { result ≡ takes_name names.now.1 names.now.0 raw.now }
 {
     match raw.form() {
-        RawForm::Word(_) | RawForm::Literal(_) | RawForm::Param(_) => false,
-        RawForm::TypeSet(_) | RawForm::Written(_) => false,
-        RawForm::Call(_, es) => takes_any(env, params, es.as_slice()),
-        RawForm::Members(es) => takes_any(env, params, es.as_slice()),
-        RawForm::Around(_, e) => has_taken_binder(env, params, e),
-        RawForm::Unary(_, e) => has_taken_binder(env, params, e),
-        RawForm::Inverse(e) => has_taken_binder(env, params, e),
-        RawForm::OfType(e, _) => has_taken_binder(env, params, e),
-        RawForm::Binary(_, e, f) => takes_either(env, params, e, f),
-        RawForm::Apply(e, f) => takes_either(env, params, e, f),
-        RawForm::Image(e, f) => takes_either(env, params, e, f),
-        RawForm::Quantified(_, bs, e) => {
-            if binds_taken(env, params, bs.as_slice()) {
+        FormulaForm::Word(_) | FormulaForm::Literal(_) | FormulaForm::Param(_) => false,
+        FormulaForm::TypeSet(_) | FormulaForm::Written(_) => false,
+        FormulaForm::Call(_, es) => takes_any(names, es.as_slice()),
+        FormulaForm::Members(es) => takes_any(names, es.as_slice()),
+        FormulaForm::Around(_, e) => has_taken_binder(names, e),
+        FormulaForm::Unary(_, e) => has_taken_binder(names, e),
+        FormulaForm::Inverse(e) => has_taken_binder(names, e),
+        FormulaForm::OfType(e, _) => has_taken_binder(names, e),
+        FormulaForm::Binary(_, e, f) => takes_either(names, e, f),
+        FormulaForm::Apply(e, f) => takes_either(names, e, f),
+        FormulaForm::Image(e, f) => takes_either(names, e, f),
+        FormulaForm::Quantified(_, bs, e) => {
+            if binds_taken(names, bs.as_slice()) {
                 return true;
             }
-            has_taken_binder(env, params, e)
+            has_taken_binder(names, e)
         }
-        RawForm::SetOf(b, e) => {
-            if is_formula_name(env, params, &b.name) {
+        FormulaForm::SetOf(b, e) => {
+            if names.has(&b.name) {
                 return true;
             }
-            has_taken_binder(env, params, e)
+            has_taken_binder(names, e)
         }
-        RawForm::Collected(_, bs, e, f) => {
-            if binds_taken(env, params, bs.as_slice()) {
+        FormulaForm::Collected(_, bs, e, f) => {
+            if binds_taken(names, bs.as_slice()) {
                 return true;
             }
-            takes_either(env, params, e, f)
+            takes_either(names, e, f)
         }
-        RawForm::Lambda(pattern, e, f) => {
-            if pattern_taken(env, params, pattern) {
+        FormulaForm::Lambda(pattern, e, f) => {
+            if pattern_taken(names, pattern) {
                 return true;
             }
-            takes_either(env, params, e, f)
+            takes_either(names, e, f)
         }
     }
 }
 
 #[cycle(taken)]
 #[tactic(auto, using(crate::proofs::Taking::walk))]
-fn takes_either(env: &Env, params: &Names, e: &Raw, f: &Raw) -> bool
-    ensures { result ≡ (takes_name env.now params.now e.now || takes_name env.now params.now f.now) }
+fn takes_either(names: &FormulaNames<'_>, e: &Raw, f: &Raw) -> bool
+    ensures { result ≡ (takes_name names.now.1 names.now.0 e.now || takes_name names.now.1 names.now.0 f.now) }
 {
-    if has_taken_binder(env, params, e) {
+    if has_taken_binder(names, e) {
         return true;
     }
-    has_taken_binder(env, params, f)
+    has_taken_binder(names, f)
 }
 
 #[cycle(taken)]
 #[tactic(auto, using(crate::proofs::Taking::walk))]
-fn takes_any(env: &Env, params: &Names, es: &[Raw]) -> bool
-    ensures { result ≡ list_any (is_formula_name params.now (known_of env.now)) (all_binder_names (raws es.now)) }
+fn takes_any(names: &FormulaNames<'_>, es: &[Raw]) -> bool
+    ensures { result ≡ list_any (is_formula_name names.now.0 (known_of names.now.1)) (all_binder_names (raws es.now)) }
 {
     for e in es {
-        if has_taken_binder(env, params, e) {
+        if has_taken_binder(names, e) {
             return true;
         }
     }
@@ -82,11 +80,11 @@ fn takes_any(env: &Env, params: &Names, es: &[Raw]) -> bool
 }
 
 #[tactic(auto, using(crate::proofs::Taking::binders))]
-fn binds_taken(env: &Env, params: &Names, binders: &[Binder]) -> bool
-    ensures { result ≡ list_any (is_formula_name params.now (known_of env.now)) (names_of binders.now) }
+fn binds_taken(names: &FormulaNames<'_>, binders: &[Binder]) -> bool
+    ensures { result ≡ list_any (is_formula_name names.now.0 (known_of names.now.1)) (names_of binders.now) }
 {
     for binder in binders {
-        if is_formula_name(env, params, &binder.name) {
+        if names.has(&binder.name) {
             return true;
         }
     }
@@ -94,16 +92,16 @@ fn binds_taken(env: &Env, params: &Names, binders: &[Binder]) -> bool
 }
 
 #[tactic(auto, using(crate::proofs::Taking::patterns))]
-fn pattern_taken(env: &Env, params: &Names, pattern: &Pattern) -> bool
-    ensures { result ≡ list_any (is_formula_name params.now (known_of env.now)) (names_of (pattern_binders pattern.now)) }
+fn pattern_taken(names: &FormulaNames<'_>, pattern: &Pattern) -> bool
+    ensures { result ≡ list_any (is_formula_name names.now.0 (known_of names.now.1)) (names_of (pattern_binders pattern.now)) }
 {
     match pattern.form() {
-        PatternForm::Bound(binder) => is_formula_name(env, params, &binder.name),
+        PatternForm::Bound(binder) => names.has(&binder.name),
         PatternForm::Pair(first, second) => {
-            if pattern_taken(env, params, first) {
+            if pattern_taken(names, first) {
                 return true;
             }
-            pattern_taken(env, params, second)
+            pattern_taken(names, second)
         }
     }
 }

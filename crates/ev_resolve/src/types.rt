@@ -1,15 +1,14 @@
 //! Written types, with their names looked up.
 ghost use Rattle.std.specs.Prelude.{◌≡◌, ℕ, Bool as Boolean, List, Some, None, position, bytes_eq, option_map, option_and_then, IfOk, is_some};
-ghost use Rattle.ev_terms.specs.Types.{pow, prod};
+ghost use Rattle.ev_terms.specs.Types.{pow, prod, more};
 ghost use Rattle.ev_typing.specs.Env.{find_data};
 ghost use Rattle.ev_syntax.specs.inner.TypeView.{raw_types};
 ghost use Rattle.ev_resolve.specs.Reading.{named, type_of_raw, types_of_raw, both};
 ghost use Rattle.ev_resolve.specs.Resolve.{known_of, written_type};
 
-use crate::names::position_of;
+use crate::formula_names::FormulaNames;
 use ev_syntax::{RawType, RawTypeForm};
-use ev_terms::{Name, Names, NoMemory, Shared, TryCopy, Ty, Tys};
-use ev_typing::Env;
+use ev_terms::{Name, NoMemory, Shared, TryCopy, Ty, Tys};
 use std::alloc::Global;
 
 /// The type that a written one is. None where a name is neither a type parameter nor a datatype, or a parameter has types.
@@ -17,21 +16,18 @@ use std::alloc::Global;
 #[tactic(auto, using(crate::proofs::TypeSteps::forms))]
 pub fn resolve_type(
     alloc: Global,
-    env: &Env,
-    params: &Names,
+    names: &FormulaNames<'_>,
     written: &RawType,
 ) -> Result<Option<Ty>, NoMemory>
-    ensures { IfOk result (λ o. o ≡ type_of_raw params.now (known_of env.now) written.now) }
+    ensures { IfOk result (λ o. o ≡ type_of_raw names.now.0 (known_of names.now.1) written.now) }
 {
     match written.form() {
         RawTypeForm::Int => Ok(Some(Ty::Int)),
         RawTypeForm::Bool => Ok(Some(Ty::Bool)),
         RawTypeForm::Param(i) => Ok(Some(Ty::Param(*i))),
-        RawTypeForm::Named(name, types) => {
-            resolve_named(alloc, env, params, name, types.as_slice())
-        }
-        RawTypeForm::Pow(member) => resolve_pow(alloc, env, params, member),
-        RawTypeForm::Prod(first, second) => resolve_prod(alloc, env, params, first, second),
+        RawTypeForm::Named(name, types) => { resolve_named(alloc, names, name, types.as_slice()) }
+        RawTypeForm::Pow(member) => resolve_pow(alloc, names, member),
+        RawTypeForm::Prod(first, second) => resolve_prod(alloc, names, first, second),
     }
 }
 
@@ -39,13 +35,12 @@ pub fn resolve_type(
 #[tactic(auto, using(crate::proofs::TypeSteps::forms))]
 fn resolve_pow(
     alloc: Global,
-    env: &Env,
-    params: &Names,
+    names: &FormulaNames<'_>,
     member: &RawType,
 ) -> Result<Option<Ty>, NoMemory>
-    ensures { IfOk result (λ o. o ≡ option_map pow (type_of_raw params.now (known_of env.now) member.now)) }
+    ensures { IfOk result (λ o. o ≡ option_map pow (type_of_raw names.now.0 (known_of names.now.1) member.now)) }
 {
-    match resolve_type(alloc, env, params, member)? {
+    match resolve_type(alloc, names, member)? {
         Some(member) => Ok(Some(Ty::Pow(Shared::new(alloc, member)?))),
         None => Ok(None),
     }
@@ -55,17 +50,16 @@ fn resolve_pow(
 #[tactic(auto, using(crate::proofs::TypeSteps::forms))]
 fn resolve_prod(
     alloc: Global,
-    env: &Env,
-    params: &Names,
+    names: &FormulaNames<'_>,
     first: &RawType,
     second: &RawType,
 ) -> Result<Option<Ty>, NoMemory>
-    ensures { IfOk result (λ o. o ≡ both prod (type_of_raw params.now (known_of env.now) first.now) (type_of_raw params.now (known_of env.now) second.now)) }
+    ensures { IfOk result (λ o. o ≡ both prod (type_of_raw names.now.0 (known_of names.now.1) first.now) (type_of_raw names.now.0 (known_of names.now.1) second.now)) }
 {
-    let Some(first) = resolve_type(alloc, env, params, first)? else {
+    let Some(first) = resolve_type(alloc, names, first)? else {
         return Ok(None)
     };
-    let Some(second) = resolve_type(alloc, env, params, second)? else {
+    let Some(second) = resolve_type(alloc, names, second)? else {
         return Ok(None)
     };
     let first = Shared::new(alloc, first)?;
@@ -76,39 +70,40 @@ fn resolve_prod(
 #[tactic(auto, using(crate::proofs::TypeSteps::forms))]
 fn resolve_named(
     alloc: Global,
-    env: &Env,
-    params: &Names,
+    names: &FormulaNames<'_>,
     name: &Name,
     types: &[RawType],
 ) -> Result<Option<Ty>, NoMemory>
-    ensures { IfOk result (λ o. o ≡ option_and_then (named (position (bytes_eq name.now) params.now) (is_some (find_data env.now name.now)) name.now) (types_of_raw params.now (known_of env.now) (raw_types types.now))) }
+    ensures { IfOk result (λ o. o ≡ option_and_then (named (position (bytes_eq name.now) names.now.0) (is_some (find_data names.now.1 name.now)) name.now) (types_of_raw names.now.0 (known_of names.now.1) (raw_types types.now))) }
 {
-    let Some(types) = resolve_types(alloc, env, params, types)? else {
+    let Some(types) = resolve_types(alloc, names, types)? else {
         return Ok(None)
     };
-    match position_of(params, name) {
-        Some(i) => parameter(i, &types),
-        None => datatype(alloc, env, name, types),
+    match names.parameter(name) {
+        Some(i) => Ok(parameter_type(i, &types)),
+        None => datatype(alloc, names, name, types),
     }
 }
 
 /// A type parameter, which has no types.
-fn parameter(i: usize, types: &Tys) -> Result<Option<Ty>, NoMemory>
-    ensures { IfOk result (λ o. (datatype : Boolean) → (n : List ℕ) → o ≡ named (Some i) datatype n types.now) }
+fn parameter_type(i: u32, types: &Tys) -> Option<Ty>
+    ensures { (datatype : Boolean) → (n : List ℕ) → result ≡ named (Some i) datatype n types.now }
 {
-    let Ok(i) = u32::try_from(i) else {
-        return Err(NoMemory)
-    };
     match types {
-        Tys::Empty => Ok(Some(Ty::Param(i))),
-        Tys::More(_, _) => Ok(None),
+        Tys::Empty => Some(Ty::Param(i)),
+        Tys::More(_, _) => None,
     }
 }
 
-fn datatype(alloc: Global, env: &Env, name: &Name, types: Tys) -> Result<Option<Ty>, NoMemory>
-    ensures { IfOk result (λ o. o ≡ named None (is_some (find_data env.now name.now)) name.now types) }
+fn datatype(
+    alloc: Global,
+    names: &FormulaNames<'_>,
+    name: &Name,
+    types: Tys,
+) -> Result<Option<Ty>, NoMemory>
+    ensures { IfOk result (λ o. o ≡ named None (is_some (find_data names.now.1 name.now)) name.now types) }
 {
-    match env.datatype(name) {
+    match names.datatype(name) {
         Some(_) => Ok(Some(Ty::Data(name.try_copy(alloc)?, types))),
         None => Ok(None),
     }
@@ -119,37 +114,43 @@ fn datatype(alloc: Global, env: &Env, name: &Name, types: Tys) -> Result<Option<
 #[tactic(auto, using(crate::proofs::TypeSteps::forms))]
 fn resolve_types(
     alloc: Global,
-    env: &Env,
-    params: &Names,
+    names: &FormulaNames<'_>,
     types: &[RawType],
 ) -> Result<Option<Tys>, NoMemory>
-    ensures { IfOk result (λ o. o ≡ types_of_raw params.now (known_of env.now) (raw_types types.now)) }
+    ensures { IfOk result (λ o. o ≡ types_of_raw names.now.0 (known_of names.now.1) (raw_types types.now)) }
 {
-    let [first, rest @ ..] = types else {
-        return Ok(Some(Tys::Empty))
-    };
-    let Some(first) = resolve_type(alloc, env, params, first)? else {
-        return Ok(None)
-    };
-    let Some(rest) = resolve_types(alloc, env, params, rest)? else {
-        return Ok(None)
-    };
-    let first = Shared::new(alloc, first)?;
-    Ok(Some(Tys::More(first, Shared::new(alloc, rest)?)))
+    let mut list = Tys::Empty;
+    let mut left = types.len();
+    'types: while left > 0 {
+        left -= 1;
+        let Some(ty) = resolve_type(alloc, names, &types[left])? else {
+            return Ok(None)
+        };
+        list = before(alloc, ty, list)?;
+    }
+    Ok(Some(list))
+}
+
+/// A list with a type before it.
+#[tactic(auto, using(crate::proofs::TypeSteps::forms))]
+fn before(alloc: Global, first: Ty, rest: Tys) -> Result<Tys, NoMemory>
+    ensures { IfOk result (λ types. types ≡ more first rest) }
+{
+    let rest = Shared::new(alloc, rest)?;
+    Ok(Tys::More(Shared::new(alloc, first)?, rest))
 }
 
 /// The type that is written, where one is.
 pub fn resolve_written(
     alloc: Global,
-    env: &Env,
-    params: &Names,
+    names: &FormulaNames<'_>,
     written: &Option<RawType>,
 ) -> Result<Option<Option<Ty>>, NoMemory>
-    ensures { IfOk result (λ o. o ≡ written_type params.now (known_of env.now) written.now) }
+    ensures { IfOk result (λ o. o ≡ written_type names.now.0 (known_of names.now.1) written.now) }
 {
     match written {
         None => Ok(Some(None)),
-        Some(written) => match resolve_type(alloc, env, params, written)? {
+        Some(written) => match resolve_type(alloc, names, written)? {
             Some(ty) => Ok(Some(Some(ty))),
             None => Ok(None),
         },

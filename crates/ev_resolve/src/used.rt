@@ -1,64 +1,94 @@
 //! Names that are not in scope.
-ghost use Rattle.std.specs.Prelude.{◌≡◌, ◌||◌, ◌++◌, ◌∷◌, [], reverse, take, length, bytes_eq, IfOk, OnOk};
+ghost use Rattle.std.specs.Prelude.{◌≡◌, ◌+◌, ◌||◌, ◌++◌, ◌∷◌, [], reverse, take, length, bytes_eq, IfOk, OnOk};
 ghost use Rattle.std.specs.List.{list_any};
 ghost use Rattle.ev_syntax.specs.Raw.{pattern_binders};
 ghost use Rattle.ev_syntax.specs.inner.RawView.{raws};
 ghost use Rattle.ev_syntax.specs.inner.TypeView.{raw_types};
-ghost use Rattle.ev_resolve.specs.UsedNames.{type_names, types_names, binders_types_names, written_names, without_bound, names_of, all_used_names};
+ghost use Rattle.ev_resolve.specs.UsedNames.{type_names, types_names, binders_types_names, written_names, without_bound, names_of, all_used_names, variable_names};
+ghost use Rattle.ev_resolve.specs.inner.Inners.{binders_told};
+ghost use Rattle.ev_resolve.specs.inner.Scopes.{scope_of};
 ghost use Rattle.ev_resolve.specs.inner.Unknown.{is_unknown, uses_unknown};
 
-use crate::formula_names::{is_among, is_formula_name};
-use ev_syntax::{Binder, Pattern, PatternForm, Raw, RawForm, RawType, RawTypeForm};
-use ev_terms::{Name, Names, NoMemory, TryCopy};
-use ev_typing::Env;
+use crate::bound::{binders_of, push_pattern};
+use crate::formula_names::FormulaNames;
+use crate::scope::{Scope, ScopeVariable};
+use ev_syntax::{Binder, FormulaForm, Raw, RawType, RawTypeForm};
+use ev_terms::{Name, NoMemory, TryCopy};
 use std::alloc::Global;
 
 /// Whether some name of a raw tree is not in scope, where these are the names of the variables, the innermost last. Linear in the tree
-/// times the number of variables in scope.
+/// and in the number of variables.
 pub fn has_unknown_name(
     alloc: Global,
-    env: &Env,
-    params: &Names,
-    scope: &mut Vec<Name>,
+    names: &FormulaNames<'_>,
+    variables: &[Name],
     raw: &Raw,
 ) -> Result<bool, NoMemory>
-    ensures unknown { IfOk result (λ b. b ≡ uses_unknown env.now params.now raw.now (reverse scope.old.items)) }
-    ensures kept { OnOk result (scope.new.items ≡ scope.old.items) }
+    ensures { IfOk result (λ b. b ≡ uses_unknown names.now.1 names.now.0 raw.now (reverse variables.now)) }
 {
-    uses(alloc, env, params, scope, raw)
+    let mut scope = scope_of_names(alloc, variables)?;
+    uses(alloc, names, &mut scope, raw)
+}
+
+#[tactic(auto, using(crate::proofs::Using::scopes))]
+fn scope_of_names(alloc: Global, variables: &[Name]) -> Result<Scope, NoMemory>
+    ensures { IfOk result (λ scope. variable_names (scope_of scope) ≡ reverse variables.now) }
+{
+    let mut scope = Scope::new(alloc);
+    for name in variables {
+        push_name(alloc, &mut scope, name)?;
+    }
+    Ok(scope)
+}
+
+/// A new innermost variable of this name.
+#[tactic(auto, using(crate::proofs::Using::scopes))]
+fn push_name(alloc: Global, scope: &mut Scope, name: &Name) -> Result<(), NoMemory>
+    ensures names { OnOk result (variable_names (scope_of scope.new) ≡ name.now ∷ variable_names (scope_of scope.old)) }
+    ensures longer { OnOk result (length scope.new ≡ length scope.old + 1) }
+    ensures kept { OnOk result (take (length scope.old) scope.new ≡ scope.old) }
+{
+    let name = Some(name.try_copy(alloc)?);
+    scope.push(
+        alloc,
+        ScopeVariable {
+            name,
+            is_predicate: false,
+        },
+    )
 }
 
 /// Whether a written type has a name that is no formula name.
 #[cycle(types)]
 #[tactic(auto, using(crate::proofs::Using::types))]
-fn type_uses(env: &Env, params: &Names, ty: &RawType) -> bool
-    ensures { result ≡ list_any (is_unknown env.now params.now) (type_names ty.now) }
+fn type_uses(names: &FormulaNames<'_>, ty: &RawType) -> bool
+    ensures { result ≡ list_any (is_unknown names.now.1 names.now.0) (type_names ty.now) }
 {
     match ty.form() {
         RawTypeForm::Int | RawTypeForm::Bool | RawTypeForm::Param(_) => false,
         RawTypeForm::Named(name, types) => {
-            if !is_formula_name(env, params, name) {
+            if !names.has(name) {
                 return true;
             }
-            types_use(env, params, types.as_slice())
+            types_use(names, types.as_slice())
         }
-        RawTypeForm::Pow(a) => type_uses(env, params, a),
+        RawTypeForm::Pow(a) => type_uses(names, a),
         RawTypeForm::Prod(a, b) => {
-            if type_uses(env, params, a) {
+            if type_uses(names, a) {
                 return true;
             }
-            type_uses(env, params, b)
+            type_uses(names, b)
         }
     }
 }
 
 #[cycle(types)]
 #[tactic(auto, using(crate::proofs::Using::types))]
-fn types_use(env: &Env, params: &Names, types: &[RawType]) -> bool
-    ensures { result ≡ list_any (is_unknown env.now params.now) (types_names (raw_types types.now)) }
+fn types_use(names: &FormulaNames<'_>, types: &[RawType]) -> bool
+    ensures { result ≡ list_any (is_unknown names.now.1 names.now.0) (types_names (raw_types types.now)) }
 {
     for ty in types {
-        if type_uses(env, params, ty) {
+        if type_uses(names, ty) {
             return true;
         }
     }
@@ -66,127 +96,100 @@ fn types_use(env: &Env, params: &Names, types: &[RawType]) -> bool
 }
 
 #[tactic(auto, using(crate::proofs::Using::binders))]
-fn binder_uses(env: &Env, params: &Names, binder: &Binder) -> bool
-    ensures { result ≡ list_any (is_unknown env.now params.now) (written_names binder.now.type) }
+fn binder_uses(names: &FormulaNames<'_>, binder: &Binder) -> bool
+    ensures { result ≡ list_any (is_unknown names.now.1 names.now.0) (written_names binder.now.type) }
 {
     match &binder.written {
-        Some(ty) => type_uses(env, params, ty),
+        Some(ty) => type_uses(names, ty),
         None => false,
     }
 }
 
 #[tactic(auto, using(crate::proofs::Using::binders))]
-fn binders_use(env: &Env, params: &Names, binders: &[Binder]) -> bool
-    ensures { result ≡ list_any (is_unknown env.now params.now) (binders_types_names binders.now) }
+fn binders_use(names: &FormulaNames<'_>, binders: &[&Binder]) -> bool
+    ensures { result ≡ list_any (is_unknown names.now.1 names.now.0) (binders_types_names (binders_told binders.now)) }
 {
     for binder in binders {
-        if binder_uses(env, params, binder) {
+        if binder_uses(names, binder) {
             return true;
         }
     }
     false
 }
 
-#[tactic(auto, using(crate::proofs::Using::patterns))]
-fn pattern_uses(env: &Env, params: &Names, pattern: &Pattern) -> bool
-    ensures { result ≡ list_any (is_unknown env.now params.now) (binders_types_names (pattern_binders pattern.now)) }
-{
-    match pattern.form() {
-        PatternForm::Bound(binder) => binder_uses(env, params, binder),
-        PatternForm::Pair(first, second) => {
-            if pattern_uses(env, params, first) {
-                return true;
-            }
-            pattern_uses(env, params, second)
-        }
-    }
-}
-
 /// Puts the names into the scope, the first the innermost. They are told apart by no order.
 #[tactic(auto, using(crate::proofs::Using::scopes))]
-fn push_names(alloc: Global, scope: &mut Vec<Name>, binders: &[Binder]) -> Result<(), NoMemory>
-    ensures names { OnOk result (reverse scope.new.items ≡ names_of binders.now ++ reverse scope.old.items) }
-    ensures kept { OnOk result (take (length scope.old.items) scope.new.items ≡ scope.old.items) }
+fn push_names(alloc: Global, scope: &mut Scope, binders: &[&Binder]) -> Result<(), NoMemory>
+    ensures names { OnOk result (variable_names (scope_of scope.new) ≡ names_of (binders_told binders.now) ++ variable_names (scope_of scope.old)) }
+    ensures kept { OnOk result (take (length scope.old) scope.new ≡ scope.old) }
 {
-    let mut i = binders.len();
-    while i > 0 {
-        i -= 1;
-        let binder = &binders[i];
-        scope.push(binder.name.try_copy(alloc)?)?;
+    let mut left = binders.len();
+    'names: while left > 0 {
+        left -= 1;
+        let binder: &Binder = binders[left];
+        push_name(alloc, scope, &binder.name)?;
     }
     Ok(())
 }
 
-/// The same of the names of a pattern.
-#[tactic(auto, using(crate::proofs::Using::scopes))]
-fn push_pattern(alloc: Global, scope: &mut Vec<Name>, pattern: &Pattern) -> Result<(), NoMemory>
-    ensures names { OnOk result (reverse scope.new.items ≡ names_of (pattern_binders pattern.now) ++ reverse scope.old.items) }
-    ensures kept { OnOk result (take (length scope.old.items) scope.new.items ≡ scope.old.items) }
-{
-    match pattern.form() {
-        PatternForm::Bound(binder) => {
-            scope.push(binder.name.try_copy(alloc)?)?;
-            Ok(())
-        }
-        PatternForm::Pair(first, second) => {
-            push_pattern(alloc, scope, second)?;
-            push_pattern(alloc, scope, first)?;
-            Ok(())
-        }
-    }
-}
-
 #[tactic(auto, using(crate::proofs::Using::calls))]
-fn is_unknown_here(env: &Env, params: &Names, scope: &[Name], name: &Name) -> bool
-    ensures { result ≡ list_any (is_unknown env.now params.now) (without_bound (reverse scope.now) (name.now ∷ [])) }
+fn is_unknown_here(names: &FormulaNames<'_>, scope: &Scope, name: &Name) -> bool
+    ensures { result ≡ list_any (is_unknown names.now.1 names.now.0) (without_bound (variable_names (scope_of scope.now)) (name.now ∷ [])) }
 {
-    if is_among(scope, name) {
+    if scope.has(name) {
         return false;
     }
-    !is_formula_name(env, params, name)
+    !names.has(name)
 }
 
 #[cycle(uses)]
 #[tactic(auto, using(crate::proofs::Using::walk))]
 fn uses(
     alloc: Global,
-    env: &Env,
-    params: &Names,
-    scope: &mut Vec<Name>,
+    names: &FormulaNames<'_>,
+    scope: &mut Scope,
     raw: &Raw,
 ) -> Result<bool, NoMemory>
-    ensures unknown { IfOk result (λ b. b ≡ uses_unknown env.now params.now raw.now (reverse scope.old.items)) }
-    ensures kept { OnOk result (scope.new.items ≡ scope.old.items) }
+    ensures unknown { IfOk result (λ b. b ≡ uses_unknown names.now.1 names.now.0 raw.now (variable_names (scope_of scope.old))) }
+    ensures kept { OnOk result (scope.new ≡ scope.old) }
 {
     match raw.form() {
-        RawForm::Word(_) | RawForm::Literal(_) | RawForm::Param(_) => Ok(false),
-        RawForm::TypeSet(ty) => Ok(type_uses(env, params, ty)),
-        RawForm::Written(ty) => Ok(type_uses(env, params, ty)),
-        RawForm::Call(name, es) => {
-            if is_unknown_here(env, params, scope.as_slice(), name) {
+        FormulaForm::Word(_) | FormulaForm::Literal(_) | FormulaForm::Param(_) => Ok(false),
+        FormulaForm::TypeSet(ty) => Ok(type_uses(names, ty)),
+        FormulaForm::Written(ty) => Ok(type_uses(names, ty)),
+        FormulaForm::Call(name, es) => {
+            if is_unknown_here(names, scope, name) {
                 return Ok(true);
             }
-            uses_any(alloc, env, params, scope, es.as_slice())
+            uses_any(alloc, names, scope, es.as_slice())
         }
-        RawForm::Members(es) => uses_any(alloc, env, params, scope, es.as_slice()),
-        RawForm::Around(_, e) => uses(alloc, env, params, scope, e),
-        RawForm::Unary(_, e) => uses(alloc, env, params, scope, e),
-        RawForm::Inverse(e) => uses(alloc, env, params, scope, e),
-        RawForm::OfType(e, ty) => {
-            if uses(alloc, env, params, scope, e)? {
+        FormulaForm::Members(es) => uses_any(alloc, names, scope, es.as_slice()),
+        FormulaForm::Around(_, e) => uses(alloc, names, scope, e),
+        FormulaForm::Unary(_, e) => uses(alloc, names, scope, e),
+        FormulaForm::Inverse(e) => uses(alloc, names, scope, e),
+        FormulaForm::OfType(e, ty) => {
+            if uses(alloc, names, scope, e)? {
                 return Ok(true);
             }
-            Ok(type_uses(env, params, ty))
+            Ok(type_uses(names, ty))
         }
-        RawForm::Binary(_, e, f) => uses_either(alloc, env, params, scope, e, f),
-        RawForm::Apply(e, f) => uses_either(alloc, env, params, scope, e, f),
-        RawForm::Image(e, f) => uses_either(alloc, env, params, scope, e, f),
-        RawForm::Quantified(_, bs, e) => { uses_under(alloc, env, params, scope, bs.as_slice(), e) }
-        RawForm::SetOf(b, e) => uses_under_one(alloc, env, params, scope, b, e),
-        RawForm::Collected(_, bs, e, f) => {
-            uses_collected(alloc, env, params, scope, bs.as_slice(), e, f)
+        FormulaForm::Binary(_, e, f) => uses_either(alloc, names, scope, e, f),
+        FormulaForm::Apply(e, f) => uses_either(alloc, names, scope, e, f),
+        FormulaForm::Image(e, f) => uses_either(alloc, names, scope, e, f),
+        FormulaForm::Quantified(_, bs, e) => {
+            let binders = binders_of(alloc, bs.as_slice())?;
+            uses_under(alloc, names, scope, binders.as_slice(), e)
         }
-        RawForm::Lambda(pattern, e, f) => { uses_lambda(alloc, env, params, scope, pattern, e, f) }
+        FormulaForm::SetOf(b, e) => uses_under(alloc, names, scope, &[b], e),
+        FormulaForm::Collected(_, bs, e, f) => {
+            let binders = binders_of(alloc, bs.as_slice())?;
+            uses_both_under(alloc, names, scope, binders.as_slice(), e, f)
+        }
+        FormulaForm::Lambda(pattern, e, f) => {
+            let mut binders = Vec::new(alloc);
+            push_pattern(alloc, pattern, &mut binders)?;
+            uses_both_under(alloc, names, scope, binders.as_slice(), e, f)
+        }
     }
 }
 
@@ -194,35 +197,33 @@ fn uses(
 #[tactic(auto, using(crate::proofs::Using::walk))]
 fn uses_either(
     alloc: Global,
-    env: &Env,
-    params: &Names,
-    scope: &mut Vec<Name>,
+    names: &FormulaNames<'_>,
+    scope: &mut Scope,
     e: &Raw,
     f: &Raw,
 ) -> Result<bool, NoMemory>
-    ensures unknown { IfOk result (λ b. b ≡ (uses_unknown env.now params.now e.now (reverse scope.old.items) || uses_unknown env.now params.now f.now (reverse scope.old.items))) }
-    ensures kept { OnOk result (scope.new.items ≡ scope.old.items) }
+    ensures unknown { IfOk result (λ b. b ≡ (uses_unknown names.now.1 names.now.0 e.now (variable_names (scope_of scope.old)) || uses_unknown names.now.1 names.now.0 f.now (variable_names (scope_of scope.old)))) }
+    ensures kept { OnOk result (scope.new ≡ scope.old) }
 {
-    if uses(alloc, env, params, scope, e)? {
+    if uses(alloc, names, scope, e)? {
         return Ok(true);
     }
-    uses(alloc, env, params, scope, f)
+    uses(alloc, names, scope, f)
 }
 
 #[cycle(uses)]
 #[tactic(auto, using(crate::proofs::Using::walk))]
 fn uses_any(
     alloc: Global,
-    env: &Env,
-    params: &Names,
-    scope: &mut Vec<Name>,
+    names: &FormulaNames<'_>,
+    scope: &mut Scope,
     es: &[Raw],
 ) -> Result<bool, NoMemory>
-    ensures unknown { IfOk result (λ b. b ≡ list_any (is_unknown env.now params.now) (all_used_names (raws es.now) (reverse scope.old.items))) }
-    ensures kept { OnOk result (scope.new.items ≡ scope.old.items) }
+    ensures unknown { IfOk result (λ b. b ≡ list_any (is_unknown names.now.1 names.now.0) (all_used_names (raws es.now) (variable_names (scope_of scope.old)))) }
+    ensures kept { OnOk result (scope.new ≡ scope.old) }
 {
     for e in es {
-        if uses(alloc, env, params, scope, e)? {
+        if uses(alloc, names, scope, e)? {
             return Ok(true);
         }
     }
@@ -234,96 +235,45 @@ fn uses_any(
 #[tactic(auto, using(crate::proofs::Using::walk))]
 fn uses_under(
     alloc: Global,
-    env: &Env,
-    params: &Names,
-    scope: &mut Vec<Name>,
-    binders: &[Binder],
+    names: &FormulaNames<'_>,
+    scope: &mut Scope,
+    binders: &[&Binder],
     e: &Raw,
 ) -> Result<bool, NoMemory>
-    ensures unknown { IfOk result (λ b. b ≡ (list_any (is_unknown env.now params.now) (binders_types_names binders.now) || uses_unknown env.now params.now e.now (names_of binders.now ++ reverse scope.old.items))) }
-    ensures kept { OnOk result (scope.new.items ≡ scope.old.items) }
+    ensures unknown { IfOk result (λ b. b ≡ (list_any (is_unknown names.now.1 names.now.0) (binders_types_names (binders_told binders.now)) || uses_unknown names.now.1 names.now.0 e.now (names_of (binders_told binders.now) ++ variable_names (scope_of scope.old)))) }
+    ensures kept { OnOk result (scope.new ≡ scope.old) }
 {
-    if binders_use(env, params, binders) {
+    if binders_use(names, binders) {
         return Ok(true);
     }
     let count = scope.len();
     push_names(alloc, scope, binders)?;
-    let found = uses(alloc, env, params, scope, e)?;
+    let found = uses(alloc, names, scope, e)?;
     scope.truncate(count);
     Ok(found)
 }
 
-/// A formula under one bound name.
+/// The two parts of a set or a function under bound names.
 #[cycle(uses)]
 #[tactic(auto, using(crate::proofs::Using::walk))]
-fn uses_under_one(
+fn uses_both_under(
     alloc: Global,
-    env: &Env,
-    params: &Names,
-    scope: &mut Vec<Name>,
-    binder: &Binder,
-    e: &Raw,
-) -> Result<bool, NoMemory>
-    ensures unknown { IfOk result (λ b. b ≡ (list_any (is_unknown env.now params.now) (binders_types_names (binder.now ∷ [])) || uses_unknown env.now params.now e.now (binder.now.name ∷ reverse scope.old.items))) }
-    ensures kept { OnOk result (scope.new.items ≡ scope.old.items) }
-{
-    if binder_uses(env, params, binder) {
-        return Ok(true);
-    }
-    scope.push(binder.name.try_copy(alloc)?)?;
-    let found = uses(alloc, env, params, scope, e)?;
-    let _bound = scope.pop();
-    Ok(found)
-}
-
-/// The two parts of a set under bound names.
-#[cycle(uses)]
-#[tactic(auto, using(crate::proofs::Using::walk))]
-fn uses_collected(
-    alloc: Global,
-    env: &Env,
-    params: &Names,
-    scope: &mut Vec<Name>,
-    binders: &[Binder],
+    names: &FormulaNames<'_>,
+    scope: &mut Scope,
+    binders: &[&Binder],
     e: &Raw,
     f: &Raw,
 ) -> Result<bool, NoMemory>
-    ensures unknown { IfOk result (λ b. b ≡ (list_any (is_unknown env.now params.now) (binders_types_names binders.now)
-        || (uses_unknown env.now params.now e.now (names_of binders.now ++ reverse scope.old.items) || uses_unknown env.now params.now f.now (names_of binders.now ++ reverse scope.old.items)))) }
-    ensures kept { OnOk result (scope.new.items ≡ scope.old.items) }
+    ensures unknown { IfOk result (λ b. b ≡ (list_any (is_unknown names.now.1 names.now.0) (binders_types_names (binders_told binders.now))
+        || (uses_unknown names.now.1 names.now.0 e.now (names_of (binders_told binders.now) ++ variable_names (scope_of scope.old)) || uses_unknown names.now.1 names.now.0 f.now (names_of (binders_told binders.now) ++ variable_names (scope_of scope.old))))) }
+    ensures kept { OnOk result (scope.new ≡ scope.old) }
 {
-    if binders_use(env, params, binders) {
+    if binders_use(names, binders) {
         return Ok(true);
     }
     let count = scope.len();
     push_names(alloc, scope, binders)?;
-    let found = uses_either(alloc, env, params, scope, e, f)?;
-    scope.truncate(count);
-    Ok(found)
-}
-
-/// The two parts of a function under the names of its pattern.
-#[cycle(uses)]
-#[tactic(auto, using(crate::proofs::Using::walk))]
-fn uses_lambda(
-    alloc: Global,
-    env: &Env,
-    params: &Names,
-    scope: &mut Vec<Name>,
-    pattern: &Pattern,
-    e: &Raw,
-    f: &Raw,
-) -> Result<bool, NoMemory>
-    ensures unknown { IfOk result (λ b. b ≡ (list_any (is_unknown env.now params.now) (binders_types_names (pattern_binders pattern.now))
-        || (uses_unknown env.now params.now e.now (names_of (pattern_binders pattern.now) ++ reverse scope.old.items) || uses_unknown env.now params.now f.now (names_of (pattern_binders pattern.now) ++ reverse scope.old.items)))) }
-    ensures kept { OnOk result (scope.new.items ≡ scope.old.items) }
-{
-    if pattern_uses(env, params, pattern) {
-        return Ok(true);
-    }
-    let count = scope.len();
-    push_pattern(alloc, scope, pattern)?;
-    let found = uses_either(alloc, env, params, scope, e, f)?;
+    let found = uses_either(alloc, names, scope, e, f)?;
     scope.truncate(count);
     Ok(found)
 }

@@ -1,7 +1,7 @@
 -- The answers of inference over the equations of a bare term.
 use Rattle.std.specs.Prelude.{◌≡◌, ℕ, ◌<◌, ◌^◌, ⊤, true, false, List, ◌++◌, Option, Some, None, option_map, if◌then◌else◌}
 use Rattle.ev_terms.specs.declared.extents.Extent.{Extent}
-use Rattle.ev_terms.specs.declared.types.Ty.{Ty, Int}
+use Rattle.ev_terms.specs.declared.types.Ty.{Ty}
 use Rattle.ev_terms.specs.Term.{Term}
 use Rattle.ev_typing.specs.Env.{Env}
 use Rattle.ev_typing.specs.Proper.{is_result}

@@ -1,5 +1,5 @@
 -- How large a type or a term is, counted so far that no number that fits 64 bits is mistaken.
-use Rattle.std.specs.Prelude.{ℕ, ◌+◌, ◌≤◌, max, min, List, Option, slice_index_or}
+use Rattle.std.specs.Prelude.{ℕ, ◌+◌, ◌≤◌, max, min, List, slice_index_or}
 use Rattle.ev_terms.specs.declared.extents.Extent.{Extent}
 use Rattle.ev_terms.specs.declared.types.Ty.{Ty, Int as IntType}
 use Rattle.ev_terms.specs.declared.types.Tys.{Tys}

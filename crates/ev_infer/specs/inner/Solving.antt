@@ -1,12 +1,13 @@
 -- The unknowns of a solution, followed to their ends.
-use Rattle.std.specs.Prelude.{◌≡◌, ◌≢◌, ℕ, ◌<◌, ◌+◌, ⊤, Bool as Boolean, true, false, List, [], ◌∷◌, length, Option, Some, None, slice_get, slice_index_or}
+use Rattle.std.specs.Prelude.{◌≡◌, ◌≢◌, ℕ, ◌<◌, ◌+◌, ◌⊎◌, ⊤, Bool as Boolean, true, false, List, [], ◌∷◌, length, Some, None, slice_get, slice_index_or}
 use Rattle.ev_terms.specs.declared.extents.Extent.{Extent}
 use Rattle.ev_terms.specs.declared.types.Ty.{Ty, Int}
 use Rattle.ev_unify.specs.declared.patterns.Pat.{Pat}
 use Rattle.ev_unify.specs.declared.patterns.Bind.{Bind}
 use Rattle.ev_unify.specs.declared.patterns.Pats.{Pats}
 use Rattle.ev_unify.specs.Patterns.{value, has_unknown, have_unknown}
-use Rattle.ev_unify.specs.Solutions.{bound_to, of_bound}
+use Rattle.ev_unify.specs.declared.patterns.PatPair.{PatPair}
+use Rattle.ev_unify.specs.Solutions.{Solves, IsTriangular, bound_to, of_bound}
 use Rattle.ev_infer.specs.declared.bulks.Bulk.{Bulk}
 use Rattle.ev_infer.specs.declared.solving.Mark.{Mark}
 use Rattle.ev_infer.specs.declared.solving.Mark.TheVariants.{Free, Bound, Open, Done}
@@ -72,12 +73,18 @@ count_bound (Done ∷ ms) = count_bound ms
 abbrev pub labor : List Mark → List Visit → ℕ
 labor M path = count_bound M + count_bound M + length path
 
--- Of the unknowns that stand somewhere: a free one, or one that no walk has come to, or all are known.
+-- a walk is in the unknown, or its type is known
+abbrev pub IsVisited : Mark → Type 0
+IsVisited Free = ⊥
+IsVisited (Bound i) = ⊥
+IsVisited Open = ⊤
+IsVisited Done = ⊤
+
+-- Of the unknowns of a table that stand somewhere: a free one, or one that no walk has come to, or walks have come to all.
 abbrev pub IsScanOf : (ℕ → Boolean) → List Mark → Scan → Type 0
 IsScanOf stands M scan.Free = (w : ℕ) × (stands w ≡ true) × (w < length M) × (mark M w ≡ Free)
 IsScanOf stands M (scan.Next v) = (stands v.unknown ≡ true) × (v.unknown < length M) × (mark M v.unknown ≡ Bound v.bind)
-IsScanOf stands M scan.Odd = ⊤
-IsScanOf stands M scan.Solved = (w : ℕ) → stands w ≡ true → (w < length M) × (mark M w ≡ Done)
+IsScanOf stands M scan.Visited = (w : ℕ) → stands w ≡ true → w < length M → IsVisited (mark M w)
 
 abbrev pub IsScan : Pat → List Mark → Scan → Type 0
 IsScan p M s = IsScanOf (λ w. has_unknown w p) M s
@@ -108,9 +115,53 @@ IsBoundTo S u p = bound_to S u ≡ Some p
 
 -- the unknowns of the pattern are known
 abbrev pub AreKnown : Pat → List Mark → Type 0
-AreKnown p M = IsScan p M scan.Solved
+AreKnown p M = (w : ℕ) → has_unknown w p ≡ true → (w < length M) × (mark M w ≡ Done)
 
 -- so many marks, all free
 pub record AreFree (count : ℕ) (M : List Mark) : Type 0 where
   pub length_is : length M ≡ count
   pub marks : (u : ℕ) → mark M u ≡ Free
+
+-- No unknown is followed back to itself, and all that are bound or stand in what is bound are below the number.
+pub record AreOrdered (S : List Bind) (count : ℕ) : Type 0 where
+  pub triangular : IsTriangular S
+  pub bound : (u : ℕ) (p : Pat) → bound_to S u ≡ Some p → u < count
+  pub inside : (u w : ℕ) (p : Pat) → bound_to S u ≡ Some p → has_unknown w p ≡ true → w < count
+
+-- an unknown is on the way
+abbrev pub IsOn : ℕ → List Visit → Type 0
+IsOn u [] = ⊥
+IsOn u (v ∷ vs) = (v.unknown ≡ u) ⊎ IsOn u vs
+
+-- all on the way have lower ranks
+abbrev pub AreLower : (ℕ → ℕ) → ℕ → List Visit → Type 0
+AreLower rank k [] = ⊤
+AreLower rank k (v ∷ vs) = (rank v.unknown < k) × AreLower rank k vs
+
+-- the ranks fall along the way
+abbrev pub Falls : (ℕ → ℕ) → List Visit → Type 0
+Falls rank [] = ⊤
+Falls rank (v ∷ vs) = AreLower rank (rank v.unknown) vs × Falls rank vs
+
+-- the way has all unknowns that a walk is in, and their ranks fall
+pub record IsWay (S : List Bind) (M : List Mark) (path : List Visit) : Type 0 where
+  pub on : (u : ℕ) → mark M u ≡ Open → IsOn u path
+  pub falls : (t : IsTriangular S) → Falls t.rank path
+
+-- a walk is in no unknown
+abbrev pub NoneOpen : List Mark → Type 0
+NoneOpen M = (u : ℕ) → mark M u ≢ Open
+
+-- what was visited stays so
+abbrev pub AreKept : List Mark → List Mark → Type 0
+AreKept M N = (u : ℕ) → IsVisited (mark M u) → IsVisited (mark N u)
+
+-- a walk came to the unknown and is in none now
+pub record IsWalked (M N : List Mark) (u : ℕ) : Type 0 where
+  pub kept : AreKept M N
+  pub visited : IsVisited (mark N u)
+  pub ended : NoneOpen N
+
+-- whatever types the unknowns from the number on are given, the pairs stay solved
+abbrev pub UseBelow : ℕ → List PatPair → Type 0
+UseBelow n pairs = (σ τ : ℕ → Ty) → ((i : ℕ) → i < n → σ i ≡ τ i) → Solves σ pairs → Solves τ pairs

@@ -1,5 +1,4 @@
 -- The tables of marks as the code keeps them.
-use Rattle.std.specs.Prelude.{ℕ, List, map}
 use Rattle.ev_terms.specs.declared.types.Sym.TheVariants.{Base}
 use Rattle.ev_resolve.specs.Reading.{Plain}
 use Rattle.ev_resolve.specs.declared.marks.Marked.{Marked}

@@ -1,8 +1,9 @@
 -- The variables in scope as the code keeps them, the outermost first.
-use Rattle.std.specs.Prelude.{ℕ, List, map, reverse, Option, Some, None, if◌then◌else◌}
-use Rattle.ev_terms.specs.declared.types.Ty.{Ty, Int, Prop}
+use Rattle.std.specs.Prelude.{◌≡◌, ℕ, List, map, reverse, position, bytes_eq, if◌then◌else◌}
+use Rattle.std.specs.HashMap.{HashMap, get}
+use Rattle.ev_terms.specs.declared.types.Ty.{Int, Prop}
 use Rattle.ev_resolve.specs.Reading.{Variable, Meaning, variable, predicate, parameter, symbol, nothing}
-use Rattle.ev_resolve.specs.declared.names.ScopeVariable.{ScopeVariable}
+use Rattle.ev_resolve.specs.declared.scope.ScopeVariable.{ScopeVariable}
 use Rattle.ev_resolve.specs.declared.names.Meant.{Meant}
 use Rattle.ev_resolve.specs.declared.names.Meant.TheVariants.{Variable as AVariable, Predicate, Parameter, Symbol, Nothing}
 
@@ -20,3 +21,7 @@ meaning_told (Predicate i) = predicate i
 meaning_told (Parameter i) = parameter i
 meaning_told (Symbol k) = symbol k
 meaning_told Nothing = nothing
+
+-- the table finds the number of each type parameter, and of no other name
+abbrev pub IsNumbering : {S : Type 0} → HashMap (List ℕ) ℕ S → List (List ℕ) → Type 0
+IsNumbering m params = (n : List ℕ) → get bytes_eq m n ≡ position (bytes_eq n) params

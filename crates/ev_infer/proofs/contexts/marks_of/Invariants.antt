@@ -1,5 +1,5 @@
 use Rattle.std.proofs.Common.{◌≡◌, ◌++◌, map, drop}
-use Rattle.ev_infer.specs.inner.Mended.{marked}
+use Rattle.ev_infer.specs.inner.Improper.{marked}
 use Rattle.ev_infer.proofs.contexts.marks_of.Given as goal
 
 abbrev pub invariant-loop-var : goal.invariant-loop-var

@@ -11,7 +11,7 @@ use Rattle.ev_infer.proofs.contexts.scope_of.Goals as goal
 pub returns : goal.returns
 returns c =
     let past : length c.args.vars.now ≤ c.loop-var.var-index = search rules in
-    scope_told c.loop-var.scope.items (variables c.args.vars.now)
-    (sym (append-nil (map seen c.loop-var.scope.items))
-    ∙ ap (λ l. map seen c.loop-var.scope.items ++ map forget (variables l)) (sym (drop_all c.args.vars.now c.loop-var.var-index past))
+    scope_told c.loop-var.scope (variables c.args.vars.now)
+    (sym (append-nil (map seen c.loop-var.scope))
+    ∙ ap (λ l. map seen c.loop-var.scope ++ map forget (variables l)) (sym (drop_all c.args.vars.now c.loop-var.var-index past))
     ∙ c.loop-var.invariant)

@@ -1,8 +1,8 @@
 use Rattle.std.specs.Prelude.{◌≡◌, ◌<◌, ◌++◌, length, ◌∷◌, [], true, false, option_map}
-use Rattle.std.proofs.Common.{get_or, ap, sym, ◌∙◌, subst, rules}
+use Rattle.std.proofs.Common.{get_or, ap, sym, ◌∙◌, rules}
 use Rattle.ev_resolve.specs.inner.BareView.{bares}
 use Rattle.ev_infer.specs.Equations.{emit_all}
-use Rattle.ev_infer.specs.inner.Walks.{pats, walk_told, all_walk_told, all_walk_of, when}
+use Rattle.ev_infer.specs.inner.Walks.{pats, walk_told, all_walk_of, when}
 use Rattle.ev_infer.proofs.EmissionSteps.{all_other, child_clash, child_some, typed_improper, typed_some, under_one}
 use Rattle.ev_infer.proofs.emission.+emit.Goals as goal
 

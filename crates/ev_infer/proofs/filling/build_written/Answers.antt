@@ -1,4 +1,4 @@
-use Rattle.std.specs.Prelude.{◌≡◌, true, refl}
+use Rattle.std.specs.Prelude.{refl}
 use Rattle.std.proofs.Common.{◌∙◌}
 use Rattle.ev_infer.specs.inner.Bulks.{type_at_unknown}
 use Rattle.ev_infer.proofs.FillingSteps.{written_types}

@@ -1,4 +1,3 @@
-use Rattle.std.specs.Prelude.{◌+◌, ◌≡◌, ◌≤◌}
 use Rattle.std.proofs.Common.{arith}
 use Rattle.ev_infer.proofs.PatternSteps.{counted_end}
 use Rattle.ev_infer.proofs.patterns.new_unknowns.Goals as goal

@@ -1,5 +1,4 @@
-use Rattle.std.specs.Prelude.{◌≡◌}
-use Rattle.std.proofs.Common.{◌∙◌, arith}
+use Rattle.std.proofs.Common.{◌∙◌}
 use Rattle.ev_typing.proofs.Signatures.{ok_weaker}
 use Rattle.ev_infer.proofs.PatternSteps.{param_inside, param_outside}
 use Rattle.ev_infer.proofs.patterns.param_of.Goals as goal

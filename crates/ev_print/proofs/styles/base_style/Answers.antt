@@ -1,4 +1,4 @@
-use Rattle.ev_print.proofs.Looking.{row_there}
+use Rattle.ev_print.proofs.TableRows.{row_there}
 use Rattle.ev_print.proofs.styles.base_style.Goals as goal
 
 pub returns : goal.returns

@@ -1,7 +1,7 @@
 use Rattle.std.proofs.Common.{◌++◌, ◌∙◌, ap, sym}
 use Rattle.std.proofs.lemmas.List.{append-nil}
 use Rattle.ev_print.proofs.TypeSteps.{on_ok}
-use Rattle.ev_print.proofs.Looking.{some_there, none_there}
+use Rattle.ev_print.proofs.TableRows.{some_there, none_there}
 use Rattle.ev_print.proofs.terms.push_mark.Goals as goal
 
 pub returns-in-Some : goal.returns-in-Some

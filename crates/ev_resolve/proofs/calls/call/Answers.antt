@@ -15,4 +15,4 @@ returns-in-Predicate c =
 
 pub returns-in-Parameter : goal.returns-in-Parameter
 returns-in-Parameter c =
-    ok_weaker c.call_parameter.result (λ o h. h c.args.name.now (bares c.args.args) ∙ ap (λ m. call_bare (meaning_told m) c.args.name.now c.args.count (bares c.args.args)) (sym c.in-Parameter.is)) c.call_parameter.ensures
+    c.call_parameter.ensures c.args.name.now (bares c.args.args) ∙ ap (λ m. call_bare (meaning_told m) c.args.name.now c.args.count (bares c.args.args)) (sym c.in-Parameter.is)

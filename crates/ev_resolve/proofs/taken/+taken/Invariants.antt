@@ -16,4 +16,4 @@ decreases-takes_any l = 3 * heights (raws l.es.now) + 1
 
 abbrev pub invariant-takes_any-loop-e : goal.invariant-takes_any-loop-e
 invariant-takes_any-loop-e l =
-    list_any (is_formula_name l.params (known_of l.env)) (all_binder_names (raws (drop l.e-index l.es))) ≡ list_any (is_formula_name l.params (known_of l.env)) (all_binder_names (raws l.es))
+    list_any (is_formula_name l.names.0 (known_of l.names.1)) (all_binder_names (raws (drop l.e-index l.es))) ≡ list_any (is_formula_name l.names.0 (known_of l.names.1)) (all_binder_names (raws l.es))

@@ -13,4 +13,4 @@ decreases-types_use l = 2 * types_height (raw_types l.types.now) + 1
 
 abbrev pub invariant-types_use-loop-ty : goal.invariant-types_use-loop-ty
 invariant-types_use-loop-ty l =
-    list_any (is_unknown l.env l.params) (types_names (raw_types (drop l.ty-index l.types))) ≡ list_any (is_unknown l.env l.params) (types_names (raw_types l.types))
+    list_any (is_unknown l.names.1 l.names.0) (types_names (raw_types (drop l.ty-index l.types))) ≡ list_any (is_unknown l.names.1 l.names.0) (types_names (raw_types l.types))

@@ -1,7 +1,8 @@
 use Rattle.std.specs.List.{list_any}
-use Rattle.std.proofs.Common.{◌≡◌, ◌*◌, ◌+◌, max, reverse, drop}
+use Rattle.std.proofs.Common.{◌≡◌, ◌*◌, ◌+◌, max, drop}
 use Rattle.ev_syntax.specs.inner.RawView.{raws, height, heights}
-use Rattle.ev_resolve.specs.UsedNames.{all_used_names}
+use Rattle.ev_resolve.specs.UsedNames.{all_used_names, variable_names}
+use Rattle.ev_resolve.specs.inner.Scopes.{scope_of}
 use Rattle.ev_resolve.specs.inner.Unknown.{is_unknown}
 use Rattle.ev_resolve.proofs.used.+uses.Given as goal
 
@@ -17,17 +18,11 @@ decreases-uses_any l = 3 * heights (raws l.es.now) + 1
 abbrev pub decreases-uses_under : goal.decreases-uses_under
 decreases-uses_under l = 3 * height l.e.now + 2
 
-abbrev pub decreases-uses_under_one : goal.decreases-uses_under_one
-decreases-uses_under_one l = 3 * height l.e.now + 2
-
-abbrev pub decreases-uses_collected : goal.decreases-uses_collected
-decreases-uses_collected l = 3 * max (height l.e.now) (height l.f.now) + 2
-
-abbrev pub decreases-uses_lambda : goal.decreases-uses_lambda
-decreases-uses_lambda l = 3 * max (height l.e.now) (height l.f.now) + 2
+abbrev pub decreases-uses_both_under : goal.decreases-uses_both_under
+decreases-uses_both_under l = 3 * max (height l.e.now) (height l.f.now) + 2
 
 abbrev pub invariant-uses_any-loop-e : goal.invariant-uses_any-loop-e
 invariant-uses_any-loop-e l = record {
-  kept : l.scope.items ≡ l.initial.scope.items;
-  rest : list_any (is_unknown l.env l.params) (all_used_names (raws (drop l.e-index l.es)) (reverse l.initial.scope.items)) ≡ list_any (is_unknown l.env l.params) (all_used_names (raws l.es) (reverse l.initial.scope.items));
+  kept : l.scope ≡ l.initial.scope;
+  rest : list_any (is_unknown l.names.1 l.names.0) (all_used_names (raws (drop l.e-index l.es)) (variable_names (scope_of l.initial.scope))) ≡ list_any (is_unknown l.names.1 l.names.0) (all_used_names (raws l.es) (variable_names (scope_of l.initial.scope)));
 }

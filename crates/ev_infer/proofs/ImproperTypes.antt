@@ -163,22 +163,22 @@ module _ (env : Env) (signatures : HasProperSignatures env) where
 
 -- A type with INT in the place of what is not proper.
 abbrev mutual
-  pub mended : Env → Ty → Ty
-  mended env IntType = IntType
-  mended env BoolType = BoolType
-  mended env Prop = IntType
-  mended env (ParamType i) = ParamType i
-  mended env (pow A) = pow (mended env A)
-  mended env (prod A B) = prod (mended env A) (mended env B)
-  mended env (DataType n As) = if has_count (find_data env n) (length (type_list As)) then DataType n (all_mended env As) else IntType
+  pub or_int : Env → Ty → Ty
+  or_int env IntType = IntType
+  or_int env BoolType = BoolType
+  or_int env Prop = IntType
+  or_int env (ParamType i) = ParamType i
+  or_int env (pow A) = pow (or_int env A)
+  or_int env (prod A B) = prod (or_int env A) (or_int env B)
+  or_int env (DataType n As) = if has_count (find_data env n) (length (type_list As)) then DataType n (all_or_int env As) else IntType
 
-  pub all_mended : Env → Tys → Tys
-  all_mended env NoTypes = NoTypes
-  all_mended env (more A As) = more (mended env A) (all_mended env As)
+  pub all_or_int : Env → Tys → Tys
+  all_or_int env NoTypes = NoTypes
+  all_or_int env (more A As) = more (or_int env A) (all_or_int env As)
 
-count_mended : (env : Env) (As : Tys) → length (type_list (all_mended env As)) ≡ length (type_list As)
-count_mended env NoTypes = refl
-count_mended env (more A As) = ap suc (count_mended env As)
+count_or_int : (env : Env) (As : Tys) → length (type_list (all_or_int env As)) ≡ length (type_list As)
+count_or_int env NoTypes = refl
+count_or_int env (more A As) = ap suc (count_or_int env As)
 
 has_count_gives : (o : Option DataDecl) (n : ℕ) → has_count o n ≡ true → IsSomeAnd o (λ d. n ≡ d.params)
 has_count_gives None n e = cc
@@ -189,48 +189,48 @@ has_count_from None n h = absurd h
 has_count_from (Some d) n h = Rattle.std.proofs.lemmas.Bool.eq-eqb n d.params h
 
 mutual
-  pub mended_proper : (env : Env) (A : Ty) → IsProper env (mended env A)
-  mended_proper env IntType = tt
-  mended_proper env BoolType = tt
-  mended_proper env Prop = tt
-  mended_proper env (ParamType i) = tt
-  mended_proper env (pow A) = mended_proper env A
-  mended_proper env (prod A B) = (mended_proper env A, mended_proper env B)
-  mended_proper env (DataType n As) = go (all_mended_proper env As) (has_count (find_data env n) (length (type_list As))) refl
+  pub proper_or_int : (env : Env) (A : Ty) → IsProper env (or_int env A)
+  proper_or_int env IntType = tt
+  proper_or_int env BoolType = tt
+  proper_or_int env Prop = tt
+  proper_or_int env (ParamType i) = tt
+  proper_or_int env (pow A) = proper_or_int env A
+  proper_or_int env (prod A B) = (proper_or_int env A, proper_or_int env B)
+  proper_or_int env (DataType n As) = go (all_proper_or_int env As) (has_count (find_data env n) (length (type_list As))) refl
     where
-      go : AreProper env (all_mended env As) → (b : Boolean) → has_count (find_data env n) (length (type_list As)) ≡ b → IsProper env (if b then DataType n (all_mended env As) else IntType)
-      go h true e = (transport (λ k. IsSomeAnd (find_data env n) (λ d. k ≡ d.params)) (sym (count_mended env As)) (has_count_gives (find_data env n) (length (type_list As)) e), h)
+      go : AreProper env (all_or_int env As) → (b : Boolean) → has_count (find_data env n) (length (type_list As)) ≡ b → IsProper env (if b then DataType n (all_or_int env As) else IntType)
+      go h true e = (transport (λ k. IsSomeAnd (find_data env n) (λ d. k ≡ d.params)) (sym (count_or_int env As)) (has_count_gives (find_data env n) (length (type_list As)) e), h)
       go h false e = tt
 
-  pub all_mended_proper : (env : Env) (As : Tys) → AreProper env (all_mended env As)
-  all_mended_proper env NoTypes = tt
-  all_mended_proper env (more A As) = (mended_proper env A, all_mended_proper env As)
+  pub all_proper_or_int : (env : Env) (As : Tys) → AreProper env (all_or_int env As)
+  all_proper_or_int env NoTypes = tt
+  all_proper_or_int env (more A As) = (proper_or_int env A, all_proper_or_int env As)
 
 count_values : (σ : ℕ → Ty) (ps : Pats) → length (type_list (values σ ps)) ≡ length (pat_list ps)
 count_values σ Empty = refl
 count_values σ (more_pats p ps) = ap suc (count_values σ ps)
 
 mutual
-  pub mended_value : (env : Env) (σ : ℕ → Ty) (p : Pat) → IsProperPat env p → mended env (value σ p) ≡ value (λ u. mended env (σ u)) p
-  mended_value env σ Int h = refl
-  mended_value env σ Bool h = refl
-  mended_value env σ (Param i) h = refl
-  mended_value env σ (pow_pat p) h = ap pow (mended_value env σ p h)
-  mended_value env σ (prod_pat p q) h = prod_by (mended_value env σ p h.0) (mended_value env σ q h.1)
-  mended_value env σ (Data n ps) h =
-      ap (λ b. if b then DataType n (all_mended env (values σ ps)) else IntType)
+  pub or_int_value : (env : Env) (σ : ℕ → Ty) (p : Pat) → IsProperPat env p → or_int env (value σ p) ≡ value (λ u. or_int env (σ u)) p
+  or_int_value env σ Int h = refl
+  or_int_value env σ Bool h = refl
+  or_int_value env σ (Param i) h = refl
+  or_int_value env σ (pow_pat p) h = ap pow (or_int_value env σ p h)
+  or_int_value env σ (prod_pat p q) h = prod_by (or_int_value env σ p h.0) (or_int_value env σ q h.1)
+  or_int_value env σ (Data n ps) h =
+      ap (λ b. if b then DataType n (all_or_int env (values σ ps)) else IntType)
       (ap (has_count (find_data env n)) (count_values σ ps) ∙ has_count_from (find_data env n) (length (pat_list ps)) h.0)
-      ∙ ap (DataType n) (mended_values env σ ps h.1)
-  mended_value env σ (Unknown u) h = refl
+      ∙ ap (DataType n) (or_int_values env σ ps h.1)
+  or_int_value env σ (Unknown u) h = refl
 
-  pub mended_values : (env : Env) (σ : ℕ → Ty) (ps : Pats) → AreProperPats env ps → all_mended env (values σ ps) ≡ values (λ u. mended env (σ u)) ps
-  mended_values env σ Empty h = refl
-  mended_values env σ (more_pats p ps) h = more_by (mended_value env σ p h.0) (mended_values env σ ps h.1)
+  pub or_int_values : (env : Env) (σ : ℕ → Ty) (ps : Pats) → AreProperPats env ps → all_or_int env (values σ ps) ≡ values (λ u. or_int env (σ u)) ps
+  or_int_values env σ Empty h = refl
+  or_int_values env σ (more_pats p ps) h = more_by (or_int_value env σ p h.0) (or_int_values env σ ps h.1)
 
-pub mended_solves : (env : Env) (σ : ℕ → Ty) (pairs : List PatPair) → AreProperPairs env pairs → Solves σ pairs → Solves (λ u. mended env (σ u)) pairs
-mended_solves env σ [] h g = tt
-mended_solves env σ (p ∷ ps) h g =
-    (sym (mended_value env σ p.left h.0.0) ∙ ap (mended env) g.0 ∙ mended_value env σ p.right h.0.1, mended_solves env σ ps h.1 g.1)
+pub or_int_solves : (env : Env) (σ : ℕ → Ty) (pairs : List PatPair) → AreProperPairs env pairs → Solves σ pairs → Solves (λ u. or_int env (σ u)) pairs
+or_int_solves env σ [] h g = tt
+or_int_solves env σ (p ∷ ps) h g =
+    (sym (or_int_value env σ p.left h.0.0) ∙ ap (or_int env) g.0 ∙ or_int_value env σ p.right h.0.1, or_int_solves env σ ps h.1 g.1)
 
 mutual
   pat_from_value : (env : Env) (σ : ℕ → Ty) (p : Pat) → IsProper env (value σ p) → IsProperPat env p
@@ -263,6 +263,6 @@ mutual
 -- A most general solution of proper pairs gives proper types from proper types.
 pub general_proper : (env : Env) (μ : ℕ → Pat) (pairs : List PatPair) → AreProperPairs env pairs → IsMostGeneral μ pairs → (θ : ℕ → Ty) → ((i : ℕ) → IsProper env (θ i)) → (u : ℕ) → IsProper env (through θ μ u)
 general_proper env μ pairs h m θ p u =
-    let σ : ℕ → Ty = λ v. mended env (through all_int μ v) in
-    let s : Solves σ pairs = mended_solves env (through all_int μ) pairs h (m.solves all_int) in
-    value_proper env θ p (μ u) (pat_from_value env σ (μ u) (transport (IsProper env) (m.general σ s u) (mended_proper env (through all_int μ u))))
+    let σ : ℕ → Ty = λ v. or_int env (through all_int μ v) in
+    let s : Solves σ pairs = or_int_solves env (through all_int μ) pairs h (m.solves all_int) in
+    value_proper env θ p (μ u) (pat_from_value env σ (μ u) (transport (IsProper env) (m.general σ s u) (proper_or_int env (through all_int μ u))))

@@ -10,8 +10,8 @@ abbrev pub marked : Env → Var → Boolean
 marked env v = not (is_result env v.ty)
 
 -- INT in its place
-abbrev pub mended_type : Env → Ty → Ty
-mended_type env A = if is_result env A then A else Int
+abbrev pub type_or_int : Env → Ty → Ty
+type_or_int env A = if is_result env A then A else Int
 
-abbrev pub mended : Env → Var → Var
-mended env v = record { name = v.name; ty = mended_type env v.ty }
+abbrev pub with_type_or_int : Env → Var → Var
+with_type_or_int env v = record { name = v.name; ty = type_or_int env v.ty }
