@@ -1,8 +1,8 @@
 //! `premises WORD`: those of induction for `INT; v0 = 0 |- !x. x = x` over the type of that word, or `none`. `admit WORD`: whether the
 //! datatype of that word is admitted.
 use crate::fault::Fault;
-use crate::samples::{data_at, field, lists, one_type, trees, two_cons};
 use crate::writing::push_sequent;
+use cases_samples::samples::{data_at, field, lists, one_type, trees, two_cons};
 use ev_data::{admit, induction_premises};
 use ev_forms::{Binder, Connective, Relation, make_bound, make_joined, make_related, make_truth};
 use ev_terms::{Name, NoMemory, Shared, Tree, Trees, TryCopy, Ty, Tys, make_lit, make_var};

@@ -6,12 +6,11 @@ mod axiom_cases;
 mod data_cases;
 mod fault;
 mod formula_cases;
-mod samples;
 mod writing;
 
+use cases_samples::samples::environment;
 use ev_typing::Env;
 use fault::Fault;
-use samples::environment;
 use std::alloc::Global;
 use std::io;
 

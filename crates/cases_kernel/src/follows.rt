@@ -18,15 +18,14 @@ fn numbers(alloc: Global, count: usize) -> Result<Nums, NoMemory>
     Ok(numbers)
 }
 
-/// Whether what a copy of the line says follows, over the environment that declares nothing.
-fn copy_follows(alloc: Global, earlier: &Sequents, line: &Line) -> Result<bool, NoMemory>
+/// Whether what a copy of the line says follows.
+fn copy_follows(alloc: Global, env: &Env, earlier: &Sequents, line: &Line) -> Result<bool, NoMemory>
     requires { AllByRecursion (λ n. (1 ≤ n) × (n ≤ length earlier.now)) line.now.premises }
 {
     let copy = line.try_copy(alloc)?;
-    let env = Env::new(alloc);
     infers(
         alloc,
-        &env,
+        env,
         earlier,
         &line.premises,
         &copy.rule,
@@ -37,6 +36,7 @@ fn copy_follows(alloc: Global, earlier: &Sequents, line: &Line) -> Result<bool, 
 /// Whether the sequent follows from all the earlier ones.
 fn line_follows(
     alloc: Global,
+    env: &Env,
     earlier: &Sequents,
     rule: BaseRule,
     sequent: Sequent,
@@ -47,22 +47,35 @@ fn line_follows(
         rule,
         premises,
     };
-    copy_follows(alloc, earlier, &line)
+    copy_follows(alloc, env, earlier, &line)
 }
 
 /// Whether the last of the sequents follows from the other ones.
-pub fn last_follows(alloc: Global, rule: BaseRule, sequents: Sequents) -> Result<bool, Fault> {
+pub fn last_follows(
+    alloc: Global,
+    env: &Env,
+    rule: BaseRule,
+    sequents: Sequents,
+) -> Result<bool, Fault> {
     let mut earlier = sequents.into_vec();
     match earlier.pop() {
-        Some(last) => Ok(line_follows(alloc, &Sequents::from_vec(earlier), rule, last)?),
+        Some(last) => {
+            let earlier = Sequents::from_vec(earlier);
+            Ok(line_follows(alloc, env, &earlier, rule, last)?)
+        }
         None => Err(Fault::NoCase),
     }
 }
 
 /// Whether the only sequent is a conclusion of the rule without premises.
-pub fn only_concludes(alloc: Global, rule: &BaseRule, sequents: &Sequents) -> Result<bool, Fault> {
+pub fn only_concludes(
+    alloc: Global,
+    env: &Env,
+    rule: &BaseRule,
+    sequents: &Sequents,
+) -> Result<bool, Fault> {
     match sequents.as_slice() {
-        [only] => Ok(concludes(alloc, &Env::new(alloc), rule, only)?),
+        [only] => Ok(concludes(alloc, env, rule, only)?),
         _ => Err(Fault::NoCase),
     }
 }

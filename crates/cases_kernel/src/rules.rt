@@ -1,6 +1,8 @@
 use cases_notation::fault::Fault;
 use cases_notation::reading::{read_tree, read_trees, read_types};
+use cases_notation::words::number;
 use ev_kernel::BaseRule;
+use ev_terms::{Name, NoMemory};
 use std::alloc::Global;
 
 /// The rules without fields for the connectives, and those on hypotheses.
@@ -40,7 +42,43 @@ fn later_rule(name: &str) -> Option<BaseRule> {
         "Cong" => Some(BaseRule::Cong),
         "SetMem" => Some(BaseRule::SetMem),
         "BoolMem" => Some(BaseRule::BoolMem),
+        "Calc" => Some(BaseRule::Calc),
+        "Ind" => Some(BaseRule::Ind),
         _ => None,
+    }
+}
+
+fn name_of(alloc: Global, text: &str) -> Result<Name, NoMemory> {
+    Name::from_slice(alloc, text.as_bytes())
+}
+
+/// The rules with one field.
+fn rule_with_one(alloc: Global, name: &str, field: &str) -> Result<BaseRule, Fault> {
+    match name {
+        "AllE" => Ok(BaseRule::AllE(read_tree(alloc, field)?)),
+        "ExI" => Ok(BaseRule::ExI(read_tree(alloc, field)?)),
+        "Axiom" => Ok(BaseRule::Axiom(number(field)?)),
+        _ => Err(Fault::NoCase),
+    }
+}
+
+/// The rules with two fields.
+fn rule_with_two(alloc: Global, name: &str, first: &str, second: &str) -> Result<BaseRule, Fault> {
+    match name {
+        "Inst" => {
+            let types = read_types(alloc, first)?;
+            Ok(BaseRule::Inst(types, read_trees(alloc, second)?))
+        }
+        "Des" => Ok(BaseRule::Des(name_of(alloc, first)?, number(second)?)),
+        "Dis" => {
+            let left = name_of(alloc, first)?;
+            Ok(BaseRule::Dis(left, name_of(alloc, second)?))
+        }
+        "Rec" => {
+            let op = name_of(alloc, first)?;
+            Ok(BaseRule::Rec(op, name_of(alloc, second)?))
+        }
+        _ => Err(Fault::NoCase),
     }
 }
 
@@ -48,18 +86,8 @@ fn later_rule(name: &str) -> Option<BaseRule> {
 pub fn read_rule(alloc: Global, name: &str, fields: &[&str]) -> Result<BaseRule, Fault> {
     match fields {
         [] => plain_rule(name).ok_or(Fault::NoCase),
-        [term] => match name {
-            "AllE" => Ok(BaseRule::AllE(read_tree(alloc, *term)?)),
-            "ExI" => Ok(BaseRule::ExI(read_tree(alloc, *term)?)),
-            _ => Err(Fault::NoCase),
-        },
-        [types, terms] => match name {
-            "Inst" => {
-                let types = read_types(alloc, *types)?;
-                Ok(BaseRule::Inst(types, read_trees(alloc, *terms)?))
-            }
-            _ => Err(Fault::NoCase),
-        },
+        [only] => rule_with_one(alloc, name, *only),
+        [first, second] => rule_with_two(alloc, name, *first, *second),
         _ => Err(Fault::NoCase),
     }
 }

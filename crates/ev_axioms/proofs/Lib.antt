@@ -4,3 +4,4 @@ pub mod AxiomTypes
 pub mod Built
 pub mod Groups
 pub mod Kept
+pub mod Undone

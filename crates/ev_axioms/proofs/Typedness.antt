@@ -8,7 +8,7 @@ use Rattle.ev_terms.specs.declared.types.Tys.{Tys}
 use Rattle.ev_terms.specs.declared.types.Sym.TheVariants.{Base, User}
 use Rattle.ev_terms.specs.Types.{pow, prod, type_list}
 use Rattle.ev_terms.specs.Term.{Term, Terms, var, lit, node, nil, cons}
-use Rattle.ev_terms.specs.Subst.{type_inst, type_at}
+use Rattle.ev_terms.specs.Substitution.{type_inst, type_at}
 use Rattle.ev_typing.specs.Profiles.{Profile, base_profile}
 use Rattle.ev_typing.specs.Env.{Env}
 use Rattle.ev_typing.specs.Typing.{AreProper, Typed, AreTyped, IsTypedNode, var_type, inside}

@@ -1,3 +1,4 @@
 pub mod Building
 pub mod Rows
 pub mod Checks
+pub mod Undoing

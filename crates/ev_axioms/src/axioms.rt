@@ -1,5 +1,5 @@
 //! The axioms by their numbers.
-ghost use Rattle.std.specs.Prelude.{◌≡◌, ◌↔◌, ◌<◌, ◌⊎◌, Err, Some, None, IfOk};
+ghost use Rattle.std.specs.Prelude.{◌≡◌, ◌↔◌, ◌<◌, ◌⊎◌, Err, Some, None, IsTrue, IfOk};
 ghost use Rattle.std.specs.Option.{option_copied};
 ghost use Rattle.ev_axioms.specs.Axioms.{axiom_row};
 ghost use Rattle.ev_axioms.specs.AxiomLaws.{AxiomsAreClosed, AxiomsAreBase};
@@ -8,6 +8,7 @@ ghost use Rattle.ev_axioms.specs.declared.faults.AxiomFault.TheVariants as fault
 use crate::building::build;
 use crate::faults::AxiomFault;
 use crate::rows::steps_of;
+use crate::undoing::is_built;
 use ev_terms::{NoMemory, Tree, Trees};
 use std::alloc::Global;
 use std::marker::Model;
@@ -15,7 +16,8 @@ use std::marker::Model;
 /// How many axioms there are.
 pub const AXIOM_COUNT: usize = 72;
 
-/// The closed formula of a row of the axiom table, by its number from 1. It is built anew: who needs many rows keeps `Axioms`.
+/// The closed formula of a row of the axiom table, by its number from 1. It is built anew: who needs many rows keeps
+/// `Axioms`, and who has a term asks `is_axiom`.
 pub fn axiom(alloc: Global, k: u32) -> Result<Tree, AxiomFault>
     ensures no_such { (result ≡ Err fault.NoSuch) ↔ ((k ≡ 0) ⊎ (72 < k)) }
     ensures none { (result ≡ Err fault.NoSuch) ↔ (axiom_row k ≡ None) }
@@ -31,6 +33,20 @@ pub fn axiom(alloc: Global, k: u32) -> Result<Tree, AxiomFault>
         Ok(Some(tree)) => Ok(tree),
         Ok(None) => unreachable!(),
         Err(NoMemory) => Err(AxiomFault::NoMemory),
+    }
+}
+
+/// Whether the term is the row of the axiom table with this number, from 1. The row is not built: memory is taken for handles on parts
+/// of the term, and for types.
+pub fn is_axiom(alloc: Global, k: u32, tree: &Tree) -> Result<bool, NoMemory>
+    ensures { IfOk result (λ yes. IsTrue yes ↔ (axiom_row k ≡ Some tree.now)) }
+{
+    if k == 0 {
+        return Ok(false);
+    }
+    match steps_of((k - 1) as usize) {
+        Some(steps) => is_built(alloc, tree, steps),
+        None => Ok(false),
     }
 }
 

@@ -1,10 +1,10 @@
 //! The rows of finite sets and of extremes. Each is written as its table has it, and then as the steps that build it.
-use crate::signs::{
+use crate::steps::Args::{A, AB, B, Int, NoType, PairAB, SetA, SetB, SetInt, SetSetA};
+use crate::steps::Step::{self, Leaf, Lit, One, Two, Var};
+use ev_terms::symbols::{
     AND, AT_MOST, CAP, CARD, CUP, EMPTY, EQUAL, FINITE, FOR_ALL, IMPLIES, IN, MAX, MIN, NOT, PLUS,
     PRODUCT, SET, SUBSET, UP_TO,
 };
-use crate::steps::Args::{A, AB, B, Int, NoType, PairAB, SetA, SetB, SetInt, SetSetA};
-use crate::steps::Step::{self, Leaf, Lit, One, Two, Var};
 
 pub(crate) static FINITE_SETS: [&[Step]; 5] = [
     // 62: finite({} oftype POW(?0))

@@ -10,9 +10,9 @@ mod logic_rows;
 mod number_rows;
 mod relation_rows;
 mod rows;
-mod signs;
 mod steps;
 mod type_args;
+mod undoing;
 
-pub use axioms::{AXIOM_COUNT, Axioms, axiom, axioms_are_closed};
+pub use axioms::{AXIOM_COUNT, Axioms, axiom, axioms_are_closed, is_axiom};
 pub use faults::AxiomFault;

@@ -1,10 +1,10 @@
 //! The rows of truth values and of sets. Each is written as its table has it, and then as the steps that build it.
-use crate::signs::{
+use crate::steps::Args::{A, Bool, NoType, SetA, SetSetA};
+use crate::steps::Step::{self, Leaf, One, Two, Var};
+use ev_terms::symbols::{
     AND, BIG_INTER, BIG_UNION, CAP, CUP, EMPTY, EQUAL, FALSE_VALUE, FOR_ALL, FOR_SOME, IFF,
     IMPLIES, IN, NOT, OR, POW, SUBSET, TRUE, TRUE_VALUE, TYPE, WITHOUT,
 };
-use crate::steps::Args::{A, Bool, NoType, SetA, SetSetA};
-use crate::steps::Step::{self, Leaf, One, Two, Var};
 
 pub(crate) static VALUES: [&[Step]; 3] = [
     // 1: #x. true

@@ -1,10 +1,10 @@
 //! The rows of numbers. Each is written as its table has it, and then as the steps that build it.
-use crate::signs::{
+use crate::steps::Args::{Int, NoType, SetInt};
+use crate::steps::Step::{self, Leaf, Lit, One, Two, Var};
+use ev_terms::symbols::{
     AND, AT_MOST, EQUAL, FOR_ALL, IFF, IMPLIES, IN, LESS, MINUS, MOD, NAT, NAT1, NEGATIVE, OR,
     OVER, PLUS, POWER, TIMES, UP_TO,
 };
-use crate::steps::Args::{Int, NoType, SetInt};
-use crate::steps::Step::{self, Leaf, Lit, One, Two, Var};
 
 pub(crate) static SUMS: [&[Step]; 5] = [
     // 39: k + m = m + k

@@ -1,16 +1,16 @@
 //! The rows of pairs, relations and functions. Each is written as its table has it, and then as the steps that build it.
-use crate::signs::{
+use crate::steps::Args::{
+    A, AA, AB, ABC, AC, B, BA, BC, C, FirstOf, NoType, PairAA, PairAB, PairABA, PairABB, PairAC,
+    PairBA, PairBC, RelationAB, RelationBC, SecondOf, SetA, SetB,
+};
+use crate::steps::Step::{self, Leaf, One, Two, Var};
+use ev_terms::symbols::{
     AND, APPLY, BIJECTION, COMPOSITION, DOM, DOMAIN_RESTRICTION, DOMAIN_SUBTRACTION, EQUAL,
     FOR_ALL, FOR_SOME, ID, IFF, IMAGE, IMPLIES, IN, INVERSE, MAPS_TO, NOT, OR, OVERRIDE,
     PARTIAL_FUNCTION, PARTIAL_INJECTION, PARTIAL_SURJECTION, PRJ1, PRJ2, PRODUCT, RAN,
     RANGE_RESTRICTION, RANGE_SUBTRACTION, RELATION, SUBSET, TOTAL_FUNCTION, TOTAL_INJECTION,
     TOTAL_SURJECTION, TYPE,
 };
-use crate::steps::Args::{
-    A, AA, AB, ABC, AC, B, BA, BC, C, FirstOf, NoType, PairAA, PairAB, PairABA, PairABB, PairAC,
-    PairBA, PairBC, RelationAB, RelationBC, SecondOf, SetA, SetB,
-};
-use crate::steps::Step::{self, Leaf, One, Two, Var};
 
 pub(crate) static PAIRS: [&[Step]; 4] = [
     // 14: x |-> u = y |-> v => x = y & u = v

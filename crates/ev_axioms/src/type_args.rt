@@ -6,56 +6,27 @@ ghost use Rattle.ev_terms.specs.Types.{pow, prod, more};
 ghost use Rattle.ev_axioms.specs.inner.Building.{types_of};
 
 use crate::steps::Args;
-use ev_terms::{NoMemory, Shared, Ty, Tys};
+use ev_terms::{NoMemory, Ty, Tys};
+use ev_typing::{pair_of, set_of};
 use std::alloc::Global;
-
-#[tactic(auto, using(crate::proofs::Stacks::type_forms))]
-fn set_of(alloc: Global, ty: Ty) -> Result<Ty, NoMemory>
-    ensures { IfOk result (λ A. A ≡ pow ty) }
-{
-    Ok(Ty::Pow(Shared::new(alloc, ty)?))
-}
-
-#[tactic(auto, using(crate::proofs::Stacks::type_forms))]
-fn pair_of(alloc: Global, first: Ty, second: Ty) -> Result<Ty, NoMemory>
-    ensures { IfOk result (λ A. A ≡ prod first second) }
-{
-    let first = Shared::new(alloc, first)?;
-    let second = Shared::new(alloc, second)?;
-    Ok(Ty::Prod(first, second))
-}
-
-#[tactic(auto, using(crate::proofs::Stacks::type_forms))]
-fn before(alloc: Global, first: Ty, rest: Tys) -> Result<Tys, NoMemory>
-    ensures { IfOk result (λ As. As ≡ more first rest) }
-{
-    let first = Shared::new(alloc, first)?;
-    Ok(Tys::More(first, Shared::new(alloc, rest)?))
-}
-
-fn one(alloc: Global, ty: Ty) -> Result<Tys, NoMemory>
-    ensures { IfOk result (λ As. As ≡ more ty Empty) }
-{
-    before(alloc, ty, Tys::Empty)
-}
 
 fn two(alloc: Global, first: Ty, second: Ty) -> Result<Tys, NoMemory>
     ensures { IfOk result (λ As. As ≡ more first (more second Empty)) }
 {
-    before(alloc, first, one(alloc, second)?)
+    Tys::before(alloc, first, Tys::one(alloc, second)?)
 }
 
 fn three(alloc: Global, first: Ty, second: Ty, third: Ty) -> Result<Tys, NoMemory>
     ensures { IfOk result (λ As. As ≡ more first (more second (more third Empty))) }
 {
-    before(alloc, first, two(alloc, second, third)?)
+    Tys::before(alloc, first, two(alloc, second, third)?)
 }
 
 /// The sets of members of the type.
 fn one_set(alloc: Global, ty: Ty) -> Result<Tys, NoMemory>
     ensures { IfOk result (λ As. As ≡ more (pow ty) Empty) }
 {
-    one(alloc, set_of(alloc, ty)?)
+    Tys::one(alloc, set_of(alloc, ty)?)
 }
 
 fn one_set_of_sets(alloc: Global, ty: Ty) -> Result<Tys, NoMemory>
@@ -68,7 +39,7 @@ fn one_set_of_sets(alloc: Global, ty: Ty) -> Result<Tys, NoMemory>
 fn one_pair(alloc: Global, first: u32, second: u32) -> Result<Tys, NoMemory>
     ensures { IfOk result (λ As. As ≡ more (prod (Param first) (Param second)) Empty) }
 {
-    one(alloc, pair_of(alloc, Ty::Param(first), Ty::Param(second))?)
+    Tys::one(alloc, pair_of(alloc, Ty::Param(first), Ty::Param(second))?)
 }
 
 /// The relations between two types, given by their parameters.
@@ -94,7 +65,7 @@ fn one_triple(alloc: Global, last: u32) -> Result<Tys, NoMemory>
     ensures { IfOk result (λ As. As ≡ more (prod (prod (Param 0) (Param 1)) (Param last)) Empty) }
 {
     let pair = pair_of(alloc, Ty::Param(0), Ty::Param(1))?;
-    one(alloc, pair_of(alloc, pair, Ty::Param(last))?)
+    Tys::one(alloc, pair_of(alloc, pair, Ty::Param(last))?)
 }
 
 /// The type arguments that a word stands for.
@@ -103,11 +74,11 @@ pub(crate) fn make_types(alloc: Global, args: Args) -> Result<Tys, NoMemory>
 {
     match args {
         Args::NoType => Ok(Tys::Empty),
-        Args::A => one(alloc, Ty::Param(0)),
-        Args::B => one(alloc, Ty::Param(1)),
-        Args::C => one(alloc, Ty::Param(2)),
-        Args::Int => one(alloc, Ty::Int),
-        Args::Bool => one(alloc, Ty::Bool),
+        Args::A => Tys::one(alloc, Ty::Param(0)),
+        Args::B => Tys::one(alloc, Ty::Param(1)),
+        Args::C => Tys::one(alloc, Ty::Param(2)),
+        Args::Int => Tys::one(alloc, Ty::Int),
+        Args::Bool => Tys::one(alloc, Ty::Bool),
         Args::SetA => one_set(alloc, Ty::Param(0)),
         Args::SetB => one_set(alloc, Ty::Param(1)),
         Args::SetInt => one_set(alloc, Ty::Int),

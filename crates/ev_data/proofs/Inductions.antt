@@ -9,7 +9,7 @@ use Rattle.ev_terms.specs.declared.types.Tys.{Tys, Empty}
 use Rattle.ev_terms.specs.declared.types.Sym.TheVariants.{Base, User}
 use Rattle.ev_terms.specs.Types.{more, type_list, Pow-pow, Prod-prod}
 use Rattle.ev_terms.specs.Term.{Term, Terms, var, lit, node, nil, cons}
-use Rattle.ev_terms.specs.Subst.{shift, subst as put_into, type_inst, type_at}
+use Rattle.ev_terms.specs.Substitution.{shift, substitute as put_into, type_inst, type_at}
 use Rattle.ev_forms.specs.Forms.{forall, call, vars}
 use Rattle.ev_typing.specs.declared.typing.DataDecl.{DataDecl}
 use Rattle.ev_typing.specs.declared.typing.Var.{Var}

@@ -9,3 +9,4 @@ pub mod RecursiveLaw
 pub mod Formulas
 pub mod Recursions
 pub mod Premises
+pub mod Bases

@@ -12,7 +12,7 @@ use Rattle.ev_terms.specs.Types.{pow, prod, more, type_list, Pow-pow, Prod-prod,
 use Rattle.ev_terms.specs.Term.{Term, var}
 use Rattle.ev_terms.proofs.TypeSteps.{type_list-More}
 use Rattle.ev_forms.specs.Forms.{forall, forall_all, eq, equation, vars_above}
-use Rattle.ev_terms.specs.Subst.{type_inst, type_at}
+use Rattle.ev_terms.specs.Substitution.{type_inst, type_at}
 use Rattle.ev_typing.specs.declared.typing.DataDecl.{DataDecl}
 use Rattle.ev_typing.specs.declared.typing.Con.{Con}
 use Rattle.ev_typing.specs.declared.typing.Var.{Var}

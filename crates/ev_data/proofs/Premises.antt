@@ -10,7 +10,7 @@ use Rattle.ev_terms.specs.declared.types.Sym.TheVariants.{Base, User}
 use Rattle.ev_terms.specs.Types.{pow, prod, more, type_list}
 use Rattle.ev_terms.specs.Term.{Term, Terms, var, lit, node, nil, cons, terms}
 use Rattle.ev_terms.specs.Symbols.{binds}
-use Rattle.ev_terms.specs.Subst.{shift, shifts, lift, lifts, inst, insts, entry, subst, type_inst, type_at}
+use Rattle.ev_terms.specs.Substitution.{shift, shifts, lift, lifts, inst, insts, entry, substitute, type_inst, type_at}
 use Rattle.ev_typing.specs.declared.typing.Con.{Con}
 use Rattle.ev_typing.specs.declared.typing.Var.{Var}
 use Rattle.ev_typing.specs.declared.typing.DataDecl.{DataDecl}

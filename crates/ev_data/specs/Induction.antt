@@ -6,7 +6,7 @@ use Rattle.ev_terms.specs.declared.types.Tys.{Tys, Empty}
 use Rattle.ev_terms.specs.declared.types.Sym.TheVariants.{Base}
 use Rattle.ev_terms.specs.Types.{more}
 use Rattle.ev_terms.specs.Term.{Term, var, node, nil, cons}
-use Rattle.ev_terms.specs.Subst.{shift, subst, type_inst, type_at}
+use Rattle.ev_terms.specs.Substitution.{shift, substitute, type_inst, type_at}
 use Rattle.ev_typing.specs.declared.typing.DataDecl.{DataDecl}
 use Rattle.ev_typing.specs.declared.typing.Con.{Con}
 use Rattle.ev_typing.specs.declared.typing.Var.{Var}
@@ -33,7 +33,7 @@ recursive_vars d c =
 
 -- `P[x]`, where P is a predicate of one more variable and x stands under the n arguments of a constructor in its place
 abbrev pub put_under : ℕ → Term → Term → Term
-put_under n P x = subst (shift P 1 n) (x ∷ [])
+put_under n P x = substitute (shift P 1 n) (x ∷ [])
 
 -- `C, As; H shifted, P[x] for each recursive argument x |- P[c(xs)]`
 abbrev pub induction_premise : Sequent → DataDecl → Tys → Term → Con → Sequent

@@ -6,6 +6,7 @@ use Rattle.ev_typing.specs.declared.typing.Entry.{Entry}
 use Rattle.ev_typing.specs.declared.typing.Entry.TheVariants.{Data, Constant, Direct, Recursive}
 use Rattle.ev_typing.specs.declared.typing.Signature.{Signature}
 use Rattle.ev_typing.specs.Env.{Env}
+use Rattle.ev_typing.specs.Parts.{IsPartOf, base}
 use Rattle.ev_typing.specs.WellFormed.{IsWellFormed, inductive_data}
 use Rattle.ev_data.specs.Admission.{IsAdmittedData}
 use Rattle.ev_data.specs.Guarded.{IsGuardedBody}
@@ -21,6 +22,15 @@ IsAdmittedEntry env (Constant sig condition) = ⊤
 IsAdmittedEntry env (Direct sig condition body) = ⊤
 IsAdmittedEntry env (Recursive sig condition place bodies) = AreGuardedBodies env sig place bodies
 
+-- well formed, and each entry is admitted
 pub record IsSound (env : Env) : Type 0 where
   pub well_formed : IsWellFormed env
   pub admitted : AllByRecursion (IsAdmittedEntry env) env
+
+-- Law: a sound environment is sound without direct operators and conditions too.
+abbrev pub BaseIsSound : Type 0
+BaseIsSound = (env : Env) → IsSound env → IsSound (base env)
+
+-- Law: and the base of a part of it is a part of the base of the whole.
+abbrev pub BaseOfBase : Type 0
+BaseOfBase = (e f : Env) → IsPartOf e f → IsPartOf (base e) (base f)

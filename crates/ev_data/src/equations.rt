@@ -183,7 +183,6 @@ fn find_case<'a>(env: &'a Env, op: &Name, con: &Name) -> Option<Case<'a>>
     ensures small { IfSome result (λ c. (c.place < length (type_list c.signature.now.args)) × (length (type_list c.signature.now.args) < 2 ^ 30) × (length c.con.now.fields < 2 ^ 30)) }
     ensures none { IfNone result (recursion_row env.now op.now con.now ≡ None) }
 {
-    let _opened = env.count();
     match env.symbol(op) {
         Some(entry) => case_in_entry(env, entry, op, con),
         None => None,

@@ -2,7 +2,7 @@
 ghost use Rattle.std.specs.Prelude.{◌≡◌, ◌<◌, ◌^◌, ◌++◌, ◌∷◌, [], length, map, Some, None, IfOk, IfSome, IfNone, OnOk};
 ghost use Rattle.ev_terms.specs.Types.{type_list};
 ghost use Rattle.ev_terms.specs.Term.{Term};
-ghost use Rattle.ev_terms.specs.Subst.{shift, subst};
+ghost use Rattle.ev_terms.specs.Substitution.{shift, substitute};
 ghost use Rattle.ev_typing.specs.TypeLists.{types};
 ghost use Rattle.ev_data.specs.Induction.{premises_for, induction_premises, induction_premise, recursive_vars};
 
@@ -150,7 +150,7 @@ fn raise_all(alloc: Global, trees: &[Tree], by: u32) -> Result<Trees, NoMemory>
 
 /// The predicate with the term for its variable.
 fn put(alloc: Global, predicate: &Tree, term: Tree) -> Result<Tree, NoMemory>
-    ensures { IfOk result (λ t. t ≡ subst predicate.now (term ∷ [])) }
+    ensures { IfOk result (λ t. t ≡ substitute predicate.now (term ∷ [])) }
 {
     let mut terms = Trees::new(alloc);
     terms.push(alloc, term)?;
@@ -170,7 +170,7 @@ fn add_hypotheses(
     predicate: &Tree,
 ) -> Result<(), NoMemory>
     requires { length con.now.fields < 2 ^ 32 }
-    ensures { OnOk result (hyps.new ≡ hyps.old ++ map (λ (x : Term). subst predicate.now (x ∷ [])) (recursive_vars decl.now con.now)) }
+    ensures { OnOk result (hyps.new ≡ hyps.old ++ map (λ (x : Term). substitute predicate.now (x ∷ [])) (recursive_vars decl.now con.now)) }
 {
     let fields = con.fields.as_slice();
     for i in 0..fields.len() {

@@ -11,7 +11,7 @@ pub mod look_ups;
 pub mod parts;
 
 pub use admission::admit;
-pub use data_laws::{formulas_are_closed, premises_are_base, recursive_is_own};
+pub use data_laws::{bases_are_sound, formulas_are_closed, premises_are_base, recursive_is_own};
 pub use equations::{
     destructor_equation, distinctness, equation, has_destructor_equation, has_distinctness,
     has_equation,

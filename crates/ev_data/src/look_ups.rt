@@ -17,7 +17,6 @@ pub fn constructor<'a>(env: &'a Env, name: &Name) -> Option<(&'a DataDecl, &'a C
     ensures none { IfNone result ((d : DataDecl) (c : Con) → find_symbol env.now name.now ≢ Some (ConOf d c)) }
     ensures small { IfSome result (λ p. length p.1.now.fields < 2 ^ 30) }
 {
-    let _opened = env.count();
     match env.symbol(name) {
         Some(entry) => constructor_of(entry, name),
         None => None,

@@ -2,7 +2,7 @@
 ghost use Rattle.std.specs.Prelude.{◌≡◌, ◌≤◌, ◌+◌, ◌++◌, ◌^◌, ◌↔◌, map, IsTrue, IfOk, OnOk};
 ghost use Rattle.ev_terms.specs.declared.types.Ty.{Param};
 ghost use Rattle.ev_terms.specs.Types.{type_list};
-ghost use Rattle.ev_terms.specs.Subst.{type_inst, type_at};
+ghost use Rattle.ev_terms.specs.Substitution.{type_inst, type_at};
 ghost use Rattle.ev_forms.specs.Forms.{equation, forall_all, vars_above, call};
 ghost use Rattle.ev_typing.specs.TypeLists.{types, own_types};
 ghost use Rattle.ev_typing.specs.Env.{field_types};

@@ -8,7 +8,7 @@ use Rattle.ev_terms.specs.declared.types.Sym.{Sym}
 use Rattle.ev_terms.specs.Term.{Term, Terms, var, lit, node, terms, terms_one, sym_of, var_of}
 use Rattle.ev_terms.specs.Symbols.{binds}
 use Rattle.ev_terms.specs.Measures.{loose, depth, depths}
-use Rattle.ev_terms.specs.Subst.{shift, inst, lifts, entry}
+use Rattle.ev_terms.specs.Substitution.{shift, inst, lifts, entry}
 use Rattle.ev_terms.proofs.Children.{depth_at}
 use Rattle.ev_terms.proofs.Laws.{lifts-past, entry-get, entry-past}
 use Rattle.ev_terms.proofs.ListLaws.{shift_closed, inst_closed}

@@ -8,7 +8,7 @@ use Rattle.ev_terms.specs.declared.types.Sym.{Sym}
 use Rattle.ev_terms.specs.Types.{type_list}
 use Rattle.ev_terms.specs.Term.{Term, Terms, node, terms, term_list, term_list-terms}
 use Rattle.ev_terms.specs.Symbols.{binds}
-use Rattle.ev_terms.specs.Subst.{shift}
+use Rattle.ev_terms.specs.Substitution.{shift}
 use Rattle.ev_terms.proofs.Laws.{shift-zero}
 use Rattle.ev_typing.specs.declared.typing.Sequent.{Sequent}
 use Rattle.ev_typing.specs.TypeLists.{types}
@@ -56,7 +56,7 @@ pub equates_elsewhere : (p W : Sequent) (l r : Term) → ¬ (p ≡ (W ⊢ p.goal
 equates_elsewhere p W l r n = refused (λ f. n (f.1 ∙ ap (λ G. W ⊢ G) (sym (ap (λ (z : Sequent). z.goal) f.1))))
 
 -- All premises, one after the other.
-named_next : (Ss : List Sequent) (n : ℕ) (ns : List ℕ) (p : Sequent) → numbered Ss n ≡ Some p → named Ss (n ∷ ns) ≡ p ∷ named Ss ns
+pub named_next : (Ss : List Sequent) (n : ℕ) (ns : List ℕ) (p : Sequent) → numbered Ss n ≡ Some p → named Ss (n ∷ ns) ≡ p ∷ named Ss ns
 named_next Ss n ns p e = rw e refl
 
 abbrev RestEquated : Sequent → List Term → List Term → List Sequent → List ℕ → ℕ → Type 0
@@ -107,7 +107,7 @@ equated_lengths W (l ∷ ls) [] ps h = absurd h
 equated_lengths W (l ∷ ls) (r ∷ rs) [] h = absurd h
 equated_lengths W (l ∷ ls) (r ∷ rs) (p ∷ ps) h = let k = equated_lengths W ls rs ps h.1 in (ap suc k.0, ap suc k.1)
 
-named_length : (Ss : List Sequent) (ns : List ℕ) → AllByRecursion (λ n. (1 ≤ n) × (n ≤ length Ss)) ns → length (named Ss ns) ≡ length ns
+pub named_length : (Ss : List Sequent) (ns : List ℕ) → AllByRecursion (λ n. (1 ≤ n) × (n ≤ length Ss)) ns → length (named Ss ns) ≡ length ns
 named_length Ss [] h = refl
 named_length Ss (n ∷ ns) h = let m = named_more Ss n ns h.0.0 h.0.1 in ap length m.1 ∙ ap suc (named_length Ss ns h.1)
 

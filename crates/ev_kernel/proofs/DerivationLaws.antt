@@ -10,9 +10,10 @@ use Rattle.ev_typing.specs.BaseSequents.{IsBaseSequent}
 use Rattle.ev_typing.proofs.Wholes.{HasAll, whole_has_all, all_proper_over, typed_over, all_typed_over}
 use Rattle.ev_typing.proofs.BaseSequents.{whole_base_sequents}
 use Rattle.ev_kernel.specs.declared.rules.BaseRule.{BaseRule}
-use Rattle.ev_kernel.specs.declared.rules.BaseRule.TheVariants.{Hyp, Weak, Cut, Inst, TrueI, FalseE, NotI, NotE, AndI, AndE1, AndE2, OrI1, OrI2, OrE, ImpI, ImpE, IffI, IffE1, IffE2, AllI, AllE, ExI, ExE, Em, Refl, Sym as Symmetry, Trans, Cong, SetMem, BoolMem}
+use Rattle.ev_kernel.specs.declared.rules.BaseRule.TheVariants.{Hyp, Weak, Cut, Inst, TrueI, FalseE, NotI, NotE, AndI, AndE1, AndE2, OrI1, OrI2, OrE, ImpI, ImpE, IffI, IffE1, IffE2, AllI, AllE, ExI, ExE, Em, Refl, Sym as Symmetry, Trans, Cong, SetMem, BoolMem, Calc, Axiom, Des, Dis, Ind, Rec}
 use Rattle.ev_kernel.specs.declared.rules.Line.{Line}
 use Rattle.ev_kernel.specs.Row.{Row}
+use Rattle.ev_kernel.proofs.Lookups.{destructor_over, distinctness_over, recursion_over, premises_over}
 use Rattle.ev_kernel.specs.Derivable.{Follows, Derivable, AreDerivable, derived, none, more, numbered, IsSequentAt, LineFollows, IsDerivationAfter, IsDerivation, LinesAreDerivable, DerivableHasDerivation, WholeKeepsDerivable}
 
 -- Each line of a derivation has a derivable sequent.
@@ -48,47 +49,53 @@ lines_after env earlier (l ∷ ls) h d =
 pub derivation_derivable : LinesAreDerivable
 derivation_derivable env ls d = lines_after env [] ls tt d
 
--- A rule goes over to a larger environment: only types and typed terms of fields speak of the environment.
-row_over : (e f : Env) → HasAll e f → (ps : List Sequent) (rule : BaseRule) (S : Sequent) → Row e ps rule S → Row f ps rule S
-row_over e f k ps Hyp S h = h
-row_over e f k ps Weak S h = h
-row_over e f k ps Cut S h = h
-row_over e f k ps (Inst As ts) S (T, q, i) = (
+-- A rule goes over to a larger environment: only types and typed terms of fields, and declared names, speak of the environment.
+row_over : (e f : Env) → IsPartOf e f → HasDistinctNames f → HasAll e f → (ps : List Sequent) (rule : BaseRule) (S : Sequent) → Row e ps rule S → Row f ps rule S
+row_over e f i w k ps Hyp S h = h
+row_over e f i w k ps Weak S h = h
+row_over e f i w k ps Cut S h = h
+row_over e f i w k ps (Inst As ts) S (T, q, g) = (
   T,
   q,
   record {
-    types_proper = all_proper_over e f k As i.types_proper;
-    terms_typed = all_typed_over e f k (type_list S.context) _ _ i.terms_typed;
-    hyps_are = i.hyps_are;
-    goal_is = i.goal_is;
+    types_proper = all_proper_over e f k As g.types_proper;
+    terms_typed = all_typed_over e f k (type_list S.context) _ _ g.terms_typed;
+    hyps_are = g.hyps_are;
+    goal_is = g.goal_is;
   },
 )
-row_over e f k ps TrueI S h = h
-row_over e f k ps FalseE S h = h
-row_over e f k ps NotI S h = h
-row_over e f k ps NotE S h = h
-row_over e f k ps AndI S h = h
-row_over e f k ps AndE1 S h = h
-row_over e f k ps AndE2 S h = h
-row_over e f k ps OrI1 S h = h
-row_over e f k ps OrI2 S h = h
-row_over e f k ps OrE S h = h
-row_over e f k ps ImpI S h = h
-row_over e f k ps ImpE S h = h
-row_over e f k ps IffI S h = h
-row_over e f k ps IffE1 S h = h
-row_over e f k ps IffE2 S h = h
-row_over e f k ps AllI S h = h
-row_over e f k ps (AllE t) S (A, P, y, q) = (A, P, typed_over e f k (type_list S.context) t A y, q)
-row_over e f k ps (ExI t) S (A, P, y, q) = (A, P, typed_over e f k (type_list S.context) t A y, q)
-row_over e f k ps ExE S h = h
-row_over e f k ps Em S h = h
-row_over e f k ps Refl S h = h
-row_over e f k ps Symmetry S h = h
-row_over e f k ps Trans S h = h
-row_over e f k ps Cong S h = h
-row_over e f k ps SetMem S h = h
-row_over e f k ps BoolMem S h = h
+row_over e f i w k ps TrueI S h = h
+row_over e f i w k ps FalseE S h = h
+row_over e f i w k ps NotI S h = h
+row_over e f i w k ps NotE S h = h
+row_over e f i w k ps AndI S h = h
+row_over e f i w k ps AndE1 S h = h
+row_over e f i w k ps AndE2 S h = h
+row_over e f i w k ps OrI1 S h = h
+row_over e f i w k ps OrI2 S h = h
+row_over e f i w k ps OrE S h = h
+row_over e f i w k ps ImpI S h = h
+row_over e f i w k ps ImpE S h = h
+row_over e f i w k ps IffI S h = h
+row_over e f i w k ps IffE1 S h = h
+row_over e f i w k ps IffE2 S h = h
+row_over e f i w k ps AllI S h = h
+row_over e f i w k ps (AllE t) S (A, P, y, q) = (A, P, typed_over e f k (type_list S.context) t A y, q)
+row_over e f i w k ps (ExI t) S (A, P, y, q) = (A, P, typed_over e f k (type_list S.context) t A y, q)
+row_over e f i w k ps ExE S h = h
+row_over e f i w k ps Em S h = h
+row_over e f i w k ps Refl S h = h
+row_over e f i w k ps Symmetry S h = h
+row_over e f i w k ps Trans S h = h
+row_over e f i w k ps Cong S h = h
+row_over e f i w k ps SetMem S h = h
+row_over e f i w k ps BoolMem S h = h
+row_over e f i w k ps Calc S h = h
+row_over e f i w k ps (Axiom n) S h = h
+row_over e f i w k ps (Des con place) S h = (h.0, destructor_over e f i w con place S.goal h.1)
+row_over e f i w k ps (Dis left right) S h = (h.0, distinctness_over e f i w left right S.goal h.1)
+row_over e f i w k ps Ind S h = premises_over e f k S ps h
+row_over e f i w k ps (Rec op con) S h = (h.0, recursion_over e f i w k op con S.goal h.1)
 
 all_base_over : (e f : Env) → IsPartOf e f → HasDistinctNames f → (Ss : List Sequent) → AllByRecursion (IsBaseSequent e) Ss → AllByRecursion (IsBaseSequent f) Ss
 all_base_over e f k w [] h = tt
@@ -96,7 +103,7 @@ all_base_over e f k w (S ∷ Ss) h = (whole_base_sequents e f k w S h.0, all_bas
 
 follows_over : (e f : Env) → IsPartOf e f → HasDistinctNames f → (ps : List Sequent) (rule : BaseRule) (S : Sequent) → Follows e ps rule S → Follows f ps rule S
 follows_over e f k w ps rule S h = record {
-  row = row_over e f (whole_has_all e f k w) ps rule S h.row;
+  row = row_over e f k w (whole_has_all e f k w) ps rule S h.row;
   conclusion = whole_base_sequents e f k w S h.conclusion;
   premises_base = all_base_over e f k w ps h.premises_base;
 }

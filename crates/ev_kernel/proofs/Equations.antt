@@ -72,7 +72,7 @@ reflexive S As l r b e d = (
 )
 
 -- Symmetry.
-first_is : (p q : Sequent) (ps qs : List Sequent) → p ∷ ps ≡ q ∷ qs → p ≡ q
+pub first_is : (p q : Sequent) (ps qs : List Sequent) → p ∷ ps ≡ q ∷ qs → p ≡ q
 first_is p q ps qs e = cc
 
 second_is : (p q p' q' : Sequent) (ps qs : List Sequent) → p ∷ p' ∷ ps ≡ q ∷ q' ∷ qs → p' ≡ q'

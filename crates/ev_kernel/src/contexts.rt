@@ -4,7 +4,7 @@ ghost use Rattle.std.specs.Option.{option_copied};
 ghost use Rattle.std.specs.List.{AllByRecursion};
 ghost use Rattle.ev_terms.specs.declared.types.Tys.{Empty};
 ghost use Rattle.ev_terms.specs.Types.{type_list};
-ghost use Rattle.ev_terms.specs.Subst.{shift};
+ghost use Rattle.ev_terms.specs.Substitution.{shift};
 ghost use Rattle.ev_typing.specs.TypeLists.{types};
 ghost use Rattle.ev_typing.specs.Sequents.{◌⊢◌, ◌▹◌};
 ghost use Rattle.ev_typing.specs.BaseSequents.{widened, under};
@@ -28,6 +28,13 @@ pub(crate) fn has_goal(sequent: &Sequent, other: &Sequent, goal: &Tree) -> bool
     sequent.context.same(&other.context)
         && sequent.hyps.same(&other.hyps)
         && same(&sequent.goal, goal)
+}
+
+/// Whether the sequents are one.
+pub(crate) fn is_same_sequent(sequent: &Sequent, other: &Sequent) -> bool
+    ensures { IsTrue result ↔ (sequent.now ≡ other.now) }
+{
+    has_goal(sequent, other, &other.goal)
 }
 
 /// Whether the hypotheses are the other ones and one more behind them.

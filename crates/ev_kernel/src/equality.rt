@@ -6,7 +6,7 @@ ghost use Rattle.ev_terms.specs.declared.types.Ty.{Ty, Bool};
 ghost use Rattle.ev_terms.specs.Types.{type_list};
 ghost use Rattle.ev_terms.specs.Symbols.{binds};
 ghost use Rattle.ev_terms.specs.Term.{Term, types_of};
-ghost use Rattle.ev_terms.specs.Subst.{subst};
+ghost use Rattle.ev_terms.specs.Substitution.{substitute};
 ghost use Rattle.ev_forms.specs.Binders.{equated};
 ghost use Rattle.ev_forms.specs.Forms.{equation, eq, mem, such_that, bool_of, bool_true};
 ghost use Rattle.ev_typing.specs.Sequents.{◌⊢◌};
@@ -26,7 +26,7 @@ use ev_forms::{
 use ev_terms::{Same, Sym, Tree, Ty, Tys, binds, same};
 use ev_typing::{Sequent, Sequents};
 
-pub(crate) fn by_reflexivity(sequent: &Sequent) -> bool
+pub(crate) fn reflexivity(sequent: &Sequent) -> bool
     ensures { IsTrue result ↔ Row [] [] Refl sequent.now }
 {
     match equation_parts(&sequent.goal) {
@@ -51,7 +51,7 @@ fn is_equation(tree: &Tree, types: &Tys, left: &Tree, right: &Tree) -> bool
     same(t, right)
 }
 
-pub(crate) fn by_symmetry(premise: &Sequent, sequent: &Sequent) -> bool
+pub(crate) fn symmetry(premise: &Sequent, sequent: &Sequent) -> bool
     ensures { IsTrue result ↔ Row [] (premise.now ∷ []) Symmetry sequent.now }
 {
     if !stands_beside(premise, sequent) {
@@ -63,7 +63,7 @@ pub(crate) fn by_symmetry(premise: &Sequent, sequent: &Sequent) -> bool
     }
 }
 
-pub(crate) fn by_transitivity(first: &Sequent, second: &Sequent, sequent: &Sequent) -> bool
+pub(crate) fn transitivity(first: &Sequent, second: &Sequent, sequent: &Sequent) -> bool
     ensures { IsTrue result ↔ Row [] (first.now ∷ second.now ∷ []) Trans sequent.now }
 {
     if !stands_beside(first, sequent) {
@@ -174,7 +174,7 @@ fn are_congruent(
     are_equated(earlier, premises, sequent, bound, lefts, rights)
 }
 
-pub(crate) fn by_congruence(earlier: &Sequents, premises: &[u128], sequent: &Sequent) -> bool
+pub(crate) fn congruence(earlier: &Sequents, premises: &[u128], sequent: &Sequent) -> bool
     requires { AllByRecursion (λ n. (1 ≤ n) × (n ≤ length earlier.now)) premises.now }
     ensures { IsTrue result ↔ Row [] (named earlier.now premises.now) Cong sequent.now }
 {
@@ -186,7 +186,7 @@ pub(crate) fn by_congruence(earlier: &Sequents, premises: &[u128], sequent: &Seq
 
 /// Whether the term is `{x | Q}` with the other one for x in Q, written out.
 fn is_member_form(membership: &Tree, unfolded: &Tree) -> bool
-    ensures { IsTrue result ↔ ((A : Ty) × (t Q : Term) × (membership.now ≡ mem A t (such_that A Q)) × (unfolded.now ≡ subst Q (t ∷ []))) }
+    ensures { IsTrue result ↔ ((A : Ty) × (t Q : Term) × (membership.now ≡ mem A t (such_that A Q)) × (unfolded.now ≡ substitute Q (t ∷ []))) }
 {
     let Some((ty, term, set)) = related_parts(membership, Relation::In) else {
         return false;
@@ -202,7 +202,7 @@ fn is_member_form(membership: &Tree, unfolded: &Tree) -> bool
     }
 }
 
-pub(crate) fn by_membership(sequent: &Sequent) -> bool
+pub(crate) fn set_membership(sequent: &Sequent) -> bool
     ensures { IsTrue result ↔ Row [] [] SetMem sequent.now }
 {
     match joined_parts(&sequent.goal, Connective::Iff) {
@@ -239,7 +239,7 @@ fn is_bool(ty: &Ty) -> bool
     }
 }
 
-pub(crate) fn by_truth_value(sequent: &Sequent) -> bool
+pub(crate) fn bool_truth(sequent: &Sequent) -> bool
     ensures { IsTrue result ↔ Row [] [] BoolMem sequent.now }
 {
     match joined_parts(&sequent.goal, Connective::Iff) {

@@ -2,7 +2,7 @@
 ghost use Rattle.std.specs.Prelude.{◌≡◌, ◌≤◌, ◌<◌, ◌^◌, ◌↔◌, None, map, reverse, IsTrue};
 ghost use Rattle.ev_terms.specs.Term.{var, sym_of};
 ghost use Rattle.ev_terms.specs.Measures.{loose};
-ghost use Rattle.ev_terms.specs.Subst.{shift, inst, lifts, entry, fill};
+ghost use Rattle.ev_terms.specs.Substitution.{shift, inst, lifts, entry, fill};
 
 use ev_forms::node_parts;
 use ev_terms::{Same, Tree, binds, loose, same};

@@ -1,7 +1,9 @@
 //! The base rules and derivability by them.
 #![tactic(auto)]
 
+mod calculations;
 mod contexts;
+mod declarations;
 pub mod derivations;
 mod equality;
 mod instances;

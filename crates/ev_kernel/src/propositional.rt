@@ -12,13 +12,13 @@ use ev_forms::{Connective, is_falsity, is_truth, joined_parts, negated_part};
 use ev_terms::{Same, Tree, same};
 use ev_typing::Sequent;
 
-pub(crate) fn by_hypothesis(sequent: &Sequent) -> bool
+pub(crate) fn hypothesis(sequent: &Sequent) -> bool
     ensures { IsTrue result ↔ Row [] [] Hyp sequent.now }
 {
     is_among(sequent.hyps.as_slice(), &sequent.goal)
 }
 
-pub(crate) fn by_weakening(premise: &Sequent, sequent: &Sequent) -> bool
+pub(crate) fn weakening(premise: &Sequent, sequent: &Sequent) -> bool
     ensures { IsTrue result ↔ Row [] (premise.now ∷ []) Weak sequent.now }
 {
     premise.context.same(&sequent.context)
@@ -26,25 +26,25 @@ pub(crate) fn by_weakening(premise: &Sequent, sequent: &Sequent) -> bool
         && are_among(premise.hyps.as_slice(), sequent.hyps.as_slice())
 }
 
-pub(crate) fn by_cut(first: &Sequent, second: &Sequent, sequent: &Sequent) -> bool
+pub(crate) fn cut(first: &Sequent, second: &Sequent, sequent: &Sequent) -> bool
     ensures { IsTrue result ↔ Row [] (first.now ∷ second.now ∷ []) Cut sequent.now }
 {
     stands_beside(first, sequent) && assumes(second, sequent, &first.goal, &sequent.goal)
 }
 
-pub(crate) fn by_truth(sequent: &Sequent) -> bool
+pub(crate) fn truth_intro(sequent: &Sequent) -> bool
     ensures { IsTrue result ↔ Row [] [] TrueI sequent.now }
 {
     is_truth(&sequent.goal)
 }
 
-pub(crate) fn by_falsity(premise: &Sequent, sequent: &Sequent) -> bool
+pub(crate) fn falsity_elim(premise: &Sequent, sequent: &Sequent) -> bool
     ensures { IsTrue result ↔ Row [] (premise.now ∷ []) FalseE sequent.now }
 {
     is_falsity(&premise.goal) && stands_beside(premise, sequent)
 }
 
-pub(crate) fn by_refutation(premise: &Sequent, sequent: &Sequent) -> bool
+pub(crate) fn not_intro(premise: &Sequent, sequent: &Sequent) -> bool
     ensures { IsTrue result ↔ Row [] (premise.now ∷ []) NotI sequent.now }
 {
     match negated_part(&sequent.goal) {
@@ -54,7 +54,7 @@ pub(crate) fn by_refutation(premise: &Sequent, sequent: &Sequent) -> bool
     }
 }
 
-pub(crate) fn by_contradiction(first: &Sequent, second: &Sequent, sequent: &Sequent) -> bool
+pub(crate) fn not_elim(first: &Sequent, second: &Sequent, sequent: &Sequent) -> bool
     ensures { IsTrue result ↔ Row [] (first.now ∷ second.now ∷ []) NotE sequent.now }
 {
     if !is_falsity(&sequent.goal) {
@@ -66,7 +66,7 @@ pub(crate) fn by_contradiction(first: &Sequent, second: &Sequent, sequent: &Sequ
     }
 }
 
-pub(crate) fn by_both(first: &Sequent, second: &Sequent, sequent: &Sequent) -> bool
+pub(crate) fn and_intro(first: &Sequent, second: &Sequent, sequent: &Sequent) -> bool
     ensures { IsTrue result ↔ Row [] (first.now ∷ second.now ∷ []) AndI sequent.now }
 {
     match joined_parts(&sequent.goal, Connective::And) {
@@ -75,7 +75,7 @@ pub(crate) fn by_both(first: &Sequent, second: &Sequent, sequent: &Sequent) -> b
     }
 }
 
-pub(crate) fn by_left_of_both(premise: &Sequent, sequent: &Sequent) -> bool
+pub(crate) fn and_elim_left(premise: &Sequent, sequent: &Sequent) -> bool
     ensures { IsTrue result ↔ Row [] (premise.now ∷ []) AndE1 sequent.now }
 {
     match joined_parts(&premise.goal, Connective::And) {
@@ -84,7 +84,7 @@ pub(crate) fn by_left_of_both(premise: &Sequent, sequent: &Sequent) -> bool
     }
 }
 
-pub(crate) fn by_right_of_both(premise: &Sequent, sequent: &Sequent) -> bool
+pub(crate) fn and_elim_right(premise: &Sequent, sequent: &Sequent) -> bool
     ensures { IsTrue result ↔ Row [] (premise.now ∷ []) AndE2 sequent.now }
 {
     match joined_parts(&premise.goal, Connective::And) {
@@ -93,7 +93,7 @@ pub(crate) fn by_right_of_both(premise: &Sequent, sequent: &Sequent) -> bool
     }
 }
 
-pub(crate) fn by_left(premise: &Sequent, sequent: &Sequent) -> bool
+pub(crate) fn or_intro_left(premise: &Sequent, sequent: &Sequent) -> bool
     ensures { IsTrue result ↔ Row [] (premise.now ∷ []) OrI1 sequent.now }
 {
     match joined_parts(&sequent.goal, Connective::Or) {
@@ -102,7 +102,7 @@ pub(crate) fn by_left(premise: &Sequent, sequent: &Sequent) -> bool
     }
 }
 
-pub(crate) fn by_right(premise: &Sequent, sequent: &Sequent) -> bool
+pub(crate) fn or_intro_right(premise: &Sequent, sequent: &Sequent) -> bool
     ensures { IsTrue result ↔ Row [] (premise.now ∷ []) OrI2 sequent.now }
 {
     match joined_parts(&sequent.goal, Connective::Or) {
@@ -111,7 +111,7 @@ pub(crate) fn by_right(premise: &Sequent, sequent: &Sequent) -> bool
     }
 }
 
-pub(crate) fn by_cases(
+pub(crate) fn or_elim(
     either: &Sequent,
     first: &Sequent,
     second: &Sequent,
@@ -129,7 +129,7 @@ pub(crate) fn by_cases(
     }
 }
 
-pub(crate) fn by_assuming(premise: &Sequent, sequent: &Sequent) -> bool
+pub(crate) fn implies_intro(premise: &Sequent, sequent: &Sequent) -> bool
     ensures { IsTrue result ↔ Row [] (premise.now ∷ []) ImpI sequent.now }
 {
     match joined_parts(&sequent.goal, Connective::Implies) {
@@ -139,12 +139,7 @@ pub(crate) fn by_assuming(premise: &Sequent, sequent: &Sequent) -> bool
 }
 
 /// Whether the one premise joins by the connective what the other proves with the goal behind it.
-fn by_left_side(
-    joining: &Sequent,
-    other: &Sequent,
-    connective: Connective,
-    sequent: &Sequent,
-) -> bool
+fn joins_goal(joining: &Sequent, other: &Sequent, connective: Connective, sequent: &Sequent) -> bool
     ensures { IsTrue result ↔ ((P : Term) × (joining.now ≡ (sequent.now ⊢ joined connective P sequent.now.goal)) × (other.now ≡ (sequent.now ⊢ P))) }
 {
     if !stands_beside(joining, sequent) {
@@ -156,13 +151,13 @@ fn by_left_side(
     }
 }
 
-pub(crate) fn by_implication(first: &Sequent, second: &Sequent, sequent: &Sequent) -> bool
+pub(crate) fn modus_ponens(first: &Sequent, second: &Sequent, sequent: &Sequent) -> bool
     ensures { IsTrue result ↔ Row [] (first.now ∷ second.now ∷ []) ImpE sequent.now }
 {
-    by_left_side(first, second, Connective::Implies, sequent)
+    joins_goal(first, second, Connective::Implies, sequent)
 }
 
-pub(crate) fn by_equivalence(first: &Sequent, second: &Sequent, sequent: &Sequent) -> bool
+pub(crate) fn iff_intro(first: &Sequent, second: &Sequent, sequent: &Sequent) -> bool
     ensures { IsTrue result ↔ Row [] (first.now ∷ second.now ∷ []) IffI sequent.now }
 {
     match joined_parts(&sequent.goal, Connective::Iff) {
@@ -172,13 +167,13 @@ pub(crate) fn by_equivalence(first: &Sequent, second: &Sequent, sequent: &Sequen
     }
 }
 
-pub(crate) fn by_left_equivalent(first: &Sequent, second: &Sequent, sequent: &Sequent) -> bool
+pub(crate) fn iff_elim_right(first: &Sequent, second: &Sequent, sequent: &Sequent) -> bool
     ensures { IsTrue result ↔ Row [] (first.now ∷ second.now ∷ []) IffE1 sequent.now }
 {
-    by_left_side(first, second, Connective::Iff, sequent)
+    joins_goal(first, second, Connective::Iff, sequent)
 }
 
-pub(crate) fn by_right_equivalent(first: &Sequent, second: &Sequent, sequent: &Sequent) -> bool
+pub(crate) fn iff_elim_left(first: &Sequent, second: &Sequent, sequent: &Sequent) -> bool
     ensures { IsTrue result ↔ Row [] (first.now ∷ second.now ∷ []) IffE2 sequent.now }
 {
     if !stands_beside(first, sequent) {
@@ -190,7 +185,7 @@ pub(crate) fn by_right_equivalent(first: &Sequent, second: &Sequent, sequent: &S
     }
 }
 
-pub(crate) fn by_excluded_middle(sequent: &Sequent) -> bool
+pub(crate) fn excluded_middle(sequent: &Sequent) -> bool
     ensures { IsTrue result ↔ Row [] [] Em sequent.now }
 {
     match joined_parts(&sequent.goal, Connective::Or) {

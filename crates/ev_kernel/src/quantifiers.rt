@@ -2,7 +2,7 @@
 ghost use Rattle.std.specs.Prelude.{◌≡◌, ◌↔◌, [], ◌∷◌, map, IsTrue, IfOk};
 ghost use Rattle.ev_terms.specs.Types.{type_list};
 ghost use Rattle.ev_terms.specs.Term.{terms as terms_of};
-ghost use Rattle.ev_terms.specs.Subst.{subst, fill, instance, type_inst, type_at};
+ghost use Rattle.ev_terms.specs.Substitution.{substitute, fill, instance, type_inst, type_at};
 ghost use Rattle.ev_typing.specs.Typing.{AreProper, AreTyped};
 ghost use Rattle.ev_kernel.specs.Row.{Row};
 ghost use Rattle.ev_kernel.specs.declared.rules.BaseRule.TheVariants.{Inst, AllI, AllE, ExI, ExE};
@@ -16,12 +16,12 @@ use std::alloc::Global;
 
 /// Whether the term is the predicate with this term for its innermost variable.
 pub(crate) fn is_with(tree: &Tree, predicate: &Tree, term: &Tree) -> bool
-    ensures { IsTrue result ↔ (tree.now ≡ subst predicate.now (term.now ∷ [])) }
+    ensures { IsTrue result ↔ (tree.now ≡ substitute predicate.now (term.now ∷ [])) }
 {
     is_filled(tree, predicate, std::slice::from_ref(term))
 }
 
-pub(crate) fn by_any(premise: &Sequent, sequent: &Sequent) -> bool
+pub(crate) fn forall_intro(premise: &Sequent, sequent: &Sequent) -> bool
     ensures { IsTrue result ↔ Row [] (premise.now ∷ []) AllI sequent.now }
 {
     match bound_parts(&sequent.goal, Binder::ForAll) {
@@ -35,7 +35,7 @@ pub(crate) fn by_any(premise: &Sequent, sequent: &Sequent) -> bool
     }
 }
 
-pub(crate) fn by_all(
+pub(crate) fn forall_elim(
     alloc: Global,
     env: &Env,
     term: &Tree,
@@ -55,7 +55,7 @@ pub(crate) fn by_all(
     }
 }
 
-pub(crate) fn by_witness(
+pub(crate) fn exists_intro(
     alloc: Global,
     env: &Env,
     term: &Tree,
@@ -75,7 +75,7 @@ pub(crate) fn by_witness(
     }
 }
 
-pub(crate) fn by_some(first: &Sequent, second: &Sequent, sequent: &Sequent) -> bool
+pub(crate) fn exists_elim(first: &Sequent, second: &Sequent, sequent: &Sequent) -> bool
     ensures { IsTrue result ↔ Row [] (first.now ∷ second.now ∷ []) ExE sequent.now }
 {
     if !stands_beside(first, sequent) {
@@ -148,7 +148,7 @@ fn may_be_put(
     )
 }
 
-pub(crate) fn by_instance(
+pub(crate) fn instantiation(
     alloc: Global,
     env: &Env,
     types: &Tys,

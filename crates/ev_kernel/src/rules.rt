@@ -1,23 +1,26 @@
-ghost use Rattle.std.specs.Prelude.{◌≢◌, ◌↔◌, ◌≤◌, List, [], ◌∷◌, IsTrue, IfOk, length};
+ghost use Rattle.std.specs.Prelude.{◌≢◌, ◌↔◌, ◌≤◌, ℕ, List, [], ◌∷◌, IsTrue, IfOk, length};
 ghost use Rattle.std.specs.List.{AllByRecursion};
 ghost use Rattle.ev_terms.specs.declared.types.Tys.{Tys};
 ghost use Rattle.ev_terms.specs.Term.{Term};
 ghost use Rattle.ev_typing.specs.BaseSequents.{IsBaseSequent};
-ghost use Rattle.ev_kernel.specs.declared.rules.BaseRule.TheVariants.{Cong, Inst, AllE, ExI};
+ghost use Rattle.ev_typing.specs.Env.{Name};
+ghost use Rattle.ev_kernel.specs.declared.rules.BaseRule.TheVariants.{Cong, Ind, Inst, AllE, ExI, Axiom, Des, Dis, Rec};
 ghost use Rattle.ev_kernel.specs.Row.{Row};
 ghost use Rattle.ev_kernel.specs.Derivable.{Follows, named};
 
+use crate::calculations::calculation;
+use crate::declarations::{axiom_row, destructor, distinct_constructors, induction, recursion};
 use crate::equality::{
-    by_congruence, by_membership, by_reflexivity, by_symmetry, by_transitivity, by_truth_value,
+    bool_truth, congruence, reflexivity, set_membership, symmetry, transitivity,
 };
 use crate::numbers::premise_of;
 use crate::propositional::{
-    by_assuming, by_both, by_cases, by_contradiction, by_cut, by_equivalence, by_excluded_middle,
-    by_falsity, by_hypothesis, by_implication, by_left, by_left_equivalent, by_left_of_both,
-    by_refutation, by_right, by_right_equivalent, by_right_of_both, by_truth, by_weakening,
+    and_elim_left, and_elim_right, and_intro, cut, excluded_middle, falsity_elim, hypothesis,
+    iff_elim_left, iff_elim_right, iff_intro, implies_intro, modus_ponens, not_elim, not_intro,
+    or_elim, or_intro_left, or_intro_right, truth_intro, weakening,
 };
-use crate::quantifiers::{by_all, by_any, by_instance, by_some, by_witness};
-use ev_terms::{ListOf, NoMemory, Nums, Tree, Trees, TryCopy, Tys};
+use crate::quantifiers::{exists_elim, exists_intro, forall_elim, forall_intro, instantiation};
+use ev_terms::{ListOf, Name, NoMemory, Nums, Tree, Trees, TryCopy, Tys};
 use ev_typing::{Env, Sequent, Sequents, is_base_sequent};
 use std::alloc::Global;
 
@@ -85,6 +88,18 @@ pub enum BaseRule {
     SetMem,
     /// When `bool(P)` is `TRUE`.
     BoolMem,
+    /// A fact on literals.
+    Calc,
+    /// An axiom, by its number from 1.
+    Axiom(u32),
+    /// What the destructor at a place, from 1, makes of its constructor.
+    Des(Name, u32),
+    /// That two constructors of one datatype make no equal values.
+    Dis(Name, Name),
+    /// `!x. P` over a datatype, by P for each constructor.
+    Ind,
+    /// What a recursive operator is at a constructor.
+    Rec(Name, Name),
 }
 
 /// A line of a derivation: a sequent, and the rule by which it follows from the earlier lines that the numbers name, from 1.
@@ -133,6 +148,18 @@ impl TryCopy for BaseRule {
             BaseRule::Cong => Ok(BaseRule::Cong),
             BaseRule::SetMem => Ok(BaseRule::SetMem),
             BaseRule::BoolMem => Ok(BaseRule::BoolMem),
+            BaseRule::Calc => Ok(BaseRule::Calc),
+            BaseRule::Axiom(k) => Ok(BaseRule::Axiom(*k)),
+            BaseRule::Des(con, place) => Ok(BaseRule::Des(con.try_copy(alloc)?, *place)),
+            BaseRule::Dis(left, right) => {
+                let left = left.try_copy(alloc)?;
+                Ok(BaseRule::Dis(left, right.try_copy(alloc)?))
+            }
+            BaseRule::Ind => Ok(BaseRule::Ind),
+            BaseRule::Rec(op, con) => {
+                let op = op.try_copy(alloc)?;
+                Ok(BaseRule::Rec(op, con.try_copy(alloc)?))
+            }
         }
     }
 }
@@ -147,23 +174,49 @@ impl TryCopy for Line {
     }
 }
 
-/// The rules without premises, but for congruence.
-fn follows_from_none(_env: &Env, rule: &BaseRule, conclusion: &Sequent) -> bool
-    requires { rule.now ≢ Cong }
+/// The rules without premises, but for congruence and induction.
+fn follows_from_none(
+    alloc: Global,
+    env: &Env,
+    rule: &BaseRule,
+    conclusion: &Sequent,
+) -> Result<bool, NoMemory>
+    requires congruence { rule.now ≢ Cong }
+    requires induction { rule.now ≢ Ind }
+    ensures { IfOk result (λ yes. IsTrue yes ↔ Row env.now [] rule.now conclusion.now) }
+{
+    match rule {
+        BaseRule::Axiom(k) => axiom_row(alloc, *k, conclusion),
+        BaseRule::Des(con, place) => destructor(alloc, env, con, *place, conclusion),
+        BaseRule::Dis(left, right) => distinct_constructors(alloc, env, left, right, conclusion),
+        BaseRule::Rec(op, con) => recursion(alloc, env, op, con, conclusion),
+        _ => Ok(concludes_plainly(env, rule, conclusion)),
+    }
+}
+
+/// The rules without premises and without fields.
+fn concludes_plainly(_env: &Env, rule: &BaseRule, conclusion: &Sequent) -> bool
+    requires congruence { rule.now ≢ Cong }
+    requires induction { rule.now ≢ Ind }
+    requires axiom { (k : ℕ) → rule.now ≢ Axiom k }
+    requires destructor { (con : Name) (place : ℕ) → rule.now ≢ Des con place }
+    requires distinctness { (left right : Name) → rule.now ≢ Dis left right }
+    requires recursion { (op con : Name) → rule.now ≢ Rec op con }
     ensures { IsTrue result ↔ Row _env.now [] rule.now conclusion.now }
 {
     match rule {
-        BaseRule::Hyp => by_hypothesis(conclusion),
-        BaseRule::TrueI => by_truth(conclusion),
-        BaseRule::Em => by_excluded_middle(conclusion),
-        BaseRule::Refl => by_reflexivity(conclusion),
-        BaseRule::SetMem => by_membership(conclusion),
-        BaseRule::BoolMem => by_truth_value(conclusion),
+        BaseRule::Hyp => hypothesis(conclusion),
+        BaseRule::TrueI => truth_intro(conclusion),
+        BaseRule::Em => excluded_middle(conclusion),
+        BaseRule::Refl => reflexivity(conclusion),
+        BaseRule::SetMem => set_membership(conclusion),
+        BaseRule::BoolMem => bool_truth(conclusion),
+        BaseRule::Calc => calculation(conclusion),
         _ => false,
     }
 }
 
-/// The rules with one premise, but for congruence.
+/// The rules with one premise, but for congruence and induction.
 fn follows_from_one(
     alloc: Global,
     env: &Env,
@@ -171,13 +224,16 @@ fn follows_from_one(
     rule: &BaseRule,
     conclusion: &Sequent,
 ) -> Result<bool, NoMemory>
-    requires { rule.now ≢ Cong }
+    requires congruence { rule.now ≢ Cong }
+    requires induction { rule.now ≢ Ind }
     ensures { IfOk result (λ yes. IsTrue yes ↔ Row env.now (premise.now ∷ []) rule.now conclusion.now) }
 {
     match rule {
-        BaseRule::Inst(types, terms) => by_instance(alloc, env, types, terms, premise, conclusion),
-        BaseRule::AllE(term) => by_all(alloc, env, term, premise, conclusion),
-        BaseRule::ExI(term) => by_witness(alloc, env, term, premise, conclusion),
+        BaseRule::Inst(types, terms) => instantiation(
+            alloc, env, types, terms, premise, conclusion,
+        ),
+        BaseRule::AllE(term) => forall_elim(alloc, env, term, premise, conclusion),
+        BaseRule::ExI(term) => exists_intro(alloc, env, term, premise, conclusion),
         _ => Ok(follows_plainly(env, premise, rule, conclusion)),
     }
 }
@@ -185,27 +241,28 @@ fn follows_from_one(
 /// The rules with one premise and without fields.
 fn follows_plainly(_env: &Env, premise: &Sequent, rule: &BaseRule, conclusion: &Sequent) -> bool
     requires congruence { rule.now ≢ Cong }
+    requires induction { rule.now ≢ Ind }
     requires instance { (As : Tys) (ts : List Term) → rule.now ≢ Inst As ts }
     requires all { (t : Term) → rule.now ≢ AllE t }
     requires witness { (t : Term) → rule.now ≢ ExI t }
     ensures { IsTrue result ↔ Row _env.now (premise.now ∷ []) rule.now conclusion.now }
 {
     match rule {
-        BaseRule::Weak => by_weakening(premise, conclusion),
-        BaseRule::FalseE => by_falsity(premise, conclusion),
-        BaseRule::NotI => by_refutation(premise, conclusion),
-        BaseRule::AndE1 => by_left_of_both(premise, conclusion),
-        BaseRule::AndE2 => by_right_of_both(premise, conclusion),
-        BaseRule::OrI1 => by_left(premise, conclusion),
-        BaseRule::OrI2 => by_right(premise, conclusion),
-        BaseRule::ImpI => by_assuming(premise, conclusion),
-        BaseRule::AllI => by_any(premise, conclusion),
-        BaseRule::Sym => by_symmetry(premise, conclusion),
+        BaseRule::Weak => weakening(premise, conclusion),
+        BaseRule::FalseE => falsity_elim(premise, conclusion),
+        BaseRule::NotI => not_intro(premise, conclusion),
+        BaseRule::AndE1 => and_elim_left(premise, conclusion),
+        BaseRule::AndE2 => and_elim_right(premise, conclusion),
+        BaseRule::OrI1 => or_intro_left(premise, conclusion),
+        BaseRule::OrI2 => or_intro_right(premise, conclusion),
+        BaseRule::ImpI => implies_intro(premise, conclusion),
+        BaseRule::AllI => forall_intro(premise, conclusion),
+        BaseRule::Sym => symmetry(premise, conclusion),
         _ => false,
     }
 }
 
-/// The rules with two premises, but for congruence.
+/// The rules with two premises, but for congruence and induction.
 fn follows_from_two(
     _env: &Env,
     first: &Sequent,
@@ -213,24 +270,25 @@ fn follows_from_two(
     rule: &BaseRule,
     conclusion: &Sequent,
 ) -> bool
-    requires { rule.now ≢ Cong }
+    requires congruence { rule.now ≢ Cong }
+    requires induction { rule.now ≢ Ind }
     ensures { IsTrue result ↔ Row _env.now (first.now ∷ second.now ∷ []) rule.now conclusion.now }
 {
     match rule {
-        BaseRule::Cut => by_cut(first, second, conclusion),
-        BaseRule::NotE => by_contradiction(first, second, conclusion),
-        BaseRule::AndI => by_both(first, second, conclusion),
-        BaseRule::ImpE => by_implication(first, second, conclusion),
-        BaseRule::IffI => by_equivalence(first, second, conclusion),
-        BaseRule::IffE1 => by_left_equivalent(first, second, conclusion),
-        BaseRule::IffE2 => by_right_equivalent(first, second, conclusion),
-        BaseRule::ExE => by_some(first, second, conclusion),
-        BaseRule::Trans => by_transitivity(first, second, conclusion),
+        BaseRule::Cut => cut(first, second, conclusion),
+        BaseRule::NotE => not_elim(first, second, conclusion),
+        BaseRule::AndI => and_intro(first, second, conclusion),
+        BaseRule::ImpE => modus_ponens(first, second, conclusion),
+        BaseRule::IffI => iff_intro(first, second, conclusion),
+        BaseRule::IffE1 => iff_elim_right(first, second, conclusion),
+        BaseRule::IffE2 => iff_elim_left(first, second, conclusion),
+        BaseRule::ExE => exists_elim(first, second, conclusion),
+        BaseRule::Trans => transitivity(first, second, conclusion),
         _ => false,
     }
 }
 
-/// The rule with three premises, but for congruence.
+/// The rule with three premises, but for congruence and induction.
 fn follows_from_three(
     _env: &Env,
     first: &Sequent,
@@ -239,11 +297,12 @@ fn follows_from_three(
     rule: &BaseRule,
     conclusion: &Sequent,
 ) -> bool
-    requires { rule.now ≢ Cong }
+    requires congruence { rule.now ≢ Cong }
+    requires induction { rule.now ≢ Ind }
     ensures { IsTrue result ↔ Row _env.now (first.now ∷ second.now ∷ third.now ∷ []) rule.now conclusion.now }
 {
     match rule {
-        BaseRule::OrE => by_cases(first, second, third, conclusion),
+        BaseRule::OrE => or_elim(first, second, third, conclusion),
         _ => false,
     }
 }
@@ -259,10 +318,11 @@ fn follows_from(
 ) -> Result<bool, NoMemory>
     requires numbers { AllByRecursion (λ n. (1 ≤ n) × (n ≤ length earlier.now)) premises.now }
     requires congruence { rule.now ≢ Cong }
+    requires induction { rule.now ≢ Ind }
     ensures { IfOk result (λ yes. IsTrue yes ↔ Row env.now (named earlier.now premises.now) rule.now conclusion.now) }
 {
     match premises {
-        [] => Ok(follows_from_none(env, rule, conclusion)),
+        [] => follows_from_none(alloc, env, rule, conclusion),
         [only] => {
             let premise = premise_of(earlier, *only);
             follows_from_one(alloc, env, premise, rule, conclusion)
@@ -295,7 +355,8 @@ fn is_row(
     ensures { IfOk result (λ yes. IsTrue yes ↔ Row env.now (named earlier.now premises.now) rule.now conclusion.now) }
 {
     match rule {
-        BaseRule::Cong => Ok(by_congruence(earlier, premises, conclusion)),
+        BaseRule::Cong => Ok(congruence(earlier, premises, conclusion)),
+        BaseRule::Ind => induction(alloc, env, earlier, premises, conclusion),
         _ => follows_from(alloc, env, earlier, premises, rule, conclusion),
     }
 }

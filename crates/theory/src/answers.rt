@@ -9,12 +9,10 @@ ghost use Rattle.theory.specs.inner.Answers.{exit_of, text_of};
 use crate::script::read_script;
 use crate::texts::report;
 use ev_outside::{ReadFault, Sink, SinkStop, Source, Steps as Counter, read_all, write_all};
+use ev_terms::limits::INPUT_LIMIT;
 use ev_terms::{Bytes, NoMemory};
 use std::alloc::Global;
 use std::sync::ledger::Ledger;
-
-/// The most bytes that a script may have.
-const INPUT_LIMIT: u64 = 16_777_216;
 
 /// How the program ends.
 #[derive(Debug, Clone, Copy, PartialEq, Eq)]

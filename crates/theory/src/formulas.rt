@@ -10,14 +10,9 @@ ghost use Rattle.theory.specs.inner.Parsing.{StopsBefore, EndsConjunction, Reads
 
 use crate::marks::{Mark, marks_of};
 use ev_forms::{Connective, make_falsity, make_joined, make_negation, make_truth};
+use ev_terms::limits::{NESTING_LIMIT, SIZE_LIMIT};
 use ev_terms::{NoMemory, Tree, extent};
 use std::alloc::Global;
-
-/// How deep a formula may be nested.
-const NESTING_LIMIT: u32 = 200;
-
-/// How many nodes a formula or a goal may have.
-pub const SIZE_LIMIT: u64 = 65_536;
 
 /// A kind of formula that a reader looks for.
 #[derive(Debug, Clone, Copy, PartialEq, Eq)]

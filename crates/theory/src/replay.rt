@@ -6,18 +6,15 @@ ghost use Rattle.ev_kernel.specs.Row.{Row};
 ghost use Rattle.theory.specs.Formulas.{size_limit};
 ghost use Rattle.theory.specs.Steps.{ReadsUp, Advances, Applies, Replays, depth_limit, outcome_with};
 
-use crate::formulas::SIZE_LIMIT;
 use crate::steps::{Applied, Outcome, Step};
 use ev_forms::{Connective, joined_parts};
 use ev_kernel::{BaseRule, concludes};
 use ev_outside::Steps as Counter;
+use ev_terms::limits::{DEPTH_LIMIT, SIZE_LIMIT};
 use ev_terms::{NoMemory, Tree, TryCopy};
 use ev_typing::{Env, Sequent, Sequents, sequent_extent};
 use std::alloc::Global;
 use std::sync::ledger::Ledger;
-
-/// How deep a goal may be.
-const DEPTH_LIMIT: u64 = 512;
 
 /// The sequent with another goal.
 fn with_goal(alloc: Global, sequent: &Sequent, goal: &Tree) -> Result<Sequent, NoMemory>
@@ -201,7 +198,7 @@ fn advance(
     }
 }
 
-/// Replays the steps on the goal. The counter ticks once for each step that finds a goal.
+/// Replays the steps on the goal. The counter ticks once for each step that is tried on a goal.
 pub fn replay<L: Ledger>(
     alloc: Global,
     env: &Env,

@@ -7,14 +7,14 @@ use Rattle.ev_data.proofs.equations.find_case.Goals as goal
 pub returns-in-Some-clause-found : goal.returns-in-Some-clause-found
 returns-in-Some-clause-found c =
     some_weaker c.case_in_entry.result
-    (λ x e. ap (λ s. recursion_of c.args.env.now s c.args.con.now) (symbol_declared c.args.env.now c.args.op.now c.in-Some.entry.now c.count-opened.ensures.well_formed c.in-Some.ensures) ∙ e)
+    (λ x e. ap (λ s. recursion_of c.args.env.now s c.args.con.now) (symbol_declared c.args.env.now c.args.op.now c.in-Some.entry.now c.symbol.ensures.well_formed c.in-Some.ensures.is) ∙ e)
     c.case_in_entry.ensures.found
 
 pub returns-in-Some-clause-none : goal.returns-in-Some-clause-none
 returns-in-Some-clause-none c =
     none_weaker c.case_in_entry.result
-    (λ e. ap (λ s. recursion_of c.args.env.now s c.args.con.now) (symbol_declared c.args.env.now c.args.op.now c.in-Some.entry.now c.count-opened.ensures.well_formed c.in-Some.ensures) ∙ e)
+    (λ e. ap (λ s. recursion_of c.args.env.now s c.args.con.now) (symbol_declared c.args.env.now c.args.op.now c.in-Some.entry.now c.symbol.ensures.well_formed c.in-Some.ensures.is) ∙ e)
     c.case_in_entry.ensures.none
 
 pub returns-in-None-clause-none : goal.returns-in-None-clause-none
-returns-in-None-clause-none c = ap (λ s. recursion_of c.args.env.now s c.args.con.now) (symbol_undeclared c.args.env.now c.args.op.now c.count-opened.ensures.well_formed c.in-None.ensures)
+returns-in-None-clause-none c = ap (λ s. recursion_of c.args.env.now s c.args.con.now) (symbol_undeclared c.args.env.now c.args.op.now c.symbol.ensures.well_formed c.in-None.ensures.is)

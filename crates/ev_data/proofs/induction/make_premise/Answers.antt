@@ -1,5 +1,5 @@
 use Rattle.std.proofs.Common.{ap, ◌∙◌, map, arith}
-use Rattle.ev_terms.specs.Subst.{shift}
+use Rattle.ev_terms.specs.Substitution.{shift}
 use Rattle.ev_forms.specs.Forms.{call}
 use Rattle.ev_data.proofs.Inductions.{premise_made}
 use Rattle.ev_data.proofs.induction.make_premise.Goals as goal

@@ -1,5 +1,5 @@
 use Rattle.std.proofs.Common.{◌≡◌, map, take}
-use Rattle.ev_terms.specs.Subst.{shift}
+use Rattle.ev_terms.specs.Substitution.{shift}
 use Rattle.ev_data.proofs.induction.raise_all.Given as goal
 
 abbrev pub invariant-loop-tree : goal.invariant-loop-tree

@@ -8,18 +8,18 @@ use Rattle.ev_data.proofs.look_ups.constructor.Goals as goal
 
 pub returns-in-Some-clause-found : goal.returns-in-Some-clause-found
 returns-in-Some-clause-found c =
-    some_weaker c.constructor_of.result (λ p e. symbol_declared c.args.env.now c.args.name.now c.in-Some.entry.now c.count-opened.ensures.well_formed c.in-Some.ensures ∙ e) c.constructor_of.ensures.found
+    some_weaker c.constructor_of.result (λ p e. symbol_declared c.args.env.now c.args.name.now c.in-Some.entry.now c.symbol.ensures.well_formed c.in-Some.ensures.is ∙ e) c.constructor_of.ensures.found
 
 pub returns-in-Some-clause-none : goal.returns-in-Some-clause-none
 returns-in-Some-clause-none c =
     none_weaker c.constructor_of.result
-    (λ e. not_constructed _ (ap constructed (symbol_declared c.args.env.now c.args.name.now c.in-Some.entry.now c.count-opened.ensures.well_formed c.in-Some.ensures) ∙ e)) c.constructor_of.ensures.none
+    (λ e. not_constructed _ (ap constructed (symbol_declared c.args.env.now c.args.name.now c.in-Some.entry.now c.symbol.ensures.well_formed c.in-Some.ensures.is) ∙ e)) c.constructor_of.ensures.none
 
 pub returns-in-Some-clause-small : goal.returns-in-Some-clause-small
 returns-in-Some-clause-small c =
     some_weaker c.constructor_of.result
-    (λ p e. (symbol_good c.args.env.now c.count-opened.ensures.well_formed c.args.name.now (ConOf p.0.now p.1.now)
-    (symbol_declared c.args.env.now c.args.name.now c.in-Some.entry.now c.count-opened.ensures.well_formed c.in-Some.ensures ∙ e)).count) c.constructor_of.ensures.found
+    (λ p e. (symbol_good c.args.env.now c.symbol.ensures.well_formed c.args.name.now (ConOf p.0.now p.1.now)
+    (symbol_declared c.args.env.now c.args.name.now c.in-Some.entry.now c.symbol.ensures.well_formed c.in-Some.ensures.is ∙ e)).count) c.constructor_of.ensures.found
 
 pub returns-in-None-clause-none : goal.returns-in-None-clause-none
-returns-in-None-clause-none c = not_constructed _ (ap constructed (symbol_undeclared c.args.env.now c.args.name.now c.count-opened.ensures.well_formed c.in-None.ensures))
+returns-in-None-clause-none c = not_constructed _ (ap constructed (symbol_undeclared c.args.env.now c.args.name.now c.symbol.ensures.well_formed c.in-None.ensures.is))

@@ -1,5 +1,5 @@
 use Rattle.std.proofs.Common.{ap, sym, ◌∙◌, map}
-use Rattle.ev_terms.specs.Subst.{shift}
+use Rattle.ev_terms.specs.Substitution.{shift}
 use Rattle.ev_typing.specs.BaseSequents.{under}
 use Rattle.ev_kernel.proofs.Congruence.{under_parts}
 use Rattle.ev_kernel.proofs.contexts.stands_under.Goals as goal

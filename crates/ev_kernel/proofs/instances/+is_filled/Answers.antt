@@ -1,5 +1,5 @@
 use Rattle.std.proofs.Common.{◌+◌, ◌∙◌, map, reverse}
-use Rattle.ev_terms.specs.Subst.{inst, lifts, entry}
+use Rattle.ev_terms.specs.Substitution.{inst, lifts, entry}
 use Rattle.ev_kernel.proofs.Lists.{image_step}
 use Rattle.ev_kernel.proofs.Comparing.{same_node, inst_node}
 use Rattle.ev_kernel.proofs.instances.+is_filled.Goals as goal

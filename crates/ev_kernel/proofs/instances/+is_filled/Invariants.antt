@@ -1,7 +1,7 @@
 use Rattle.std.proofs.Common.{◌≡◌, ◌*◌, ◌+◌, take, map, reverse}
 use Rattle.ev_terms.specs.Term.{terms}
 use Rattle.ev_terms.specs.Measures.{depth, depths}
-use Rattle.ev_terms.specs.Subst.{inst, lifts, entry}
+use Rattle.ev_terms.specs.Substitution.{inst, lifts, entry}
 use Rattle.ev_kernel.proofs.instances.+is_filled.Given as goal
 
 abbrev pub decreases-is_filled_under : goal.decreases-is_filled_under

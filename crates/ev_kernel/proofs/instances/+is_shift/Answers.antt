@@ -1,4 +1,4 @@
-use Rattle.ev_terms.specs.Subst.{shift}
+use Rattle.ev_terms.specs.Substitution.{shift}
 use Rattle.ev_kernel.proofs.Lists.{image_step}
 use Rattle.ev_kernel.proofs.Comparing.{same_node, shift_node}
 use Rattle.std.proofs.Common.{◌+◌, ◌∙◌, map}

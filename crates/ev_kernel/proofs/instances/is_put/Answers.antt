@@ -1,6 +1,6 @@
 use Rattle.std.proofs.Common.{◌-◌, ap, reverse, length}
 use Rattle.ev_terms.specs.Term.{var}
-use Rattle.ev_terms.specs.Subst.{shift, inst, lifts, entry}
+use Rattle.ev_terms.specs.Substitution.{shift, inst, lifts, entry}
 use Rattle.ev_kernel.proofs.Comparing.{same_as, put_argument, put_outside}
 use Rattle.ev_kernel.proofs.instances.is_put.Goals as goal
 

@@ -1,4 +1,4 @@
-use Rattle.ev_terms.specs.Subst.{fill, instance}
+use Rattle.ev_terms.specs.Substitution.{fill, instance}
 use Rattle.ev_kernel.proofs.Lists.{image_step}
 use Rattle.ev_kernel.proofs.quantifiers.are_instances.Goals as goal
 

@@ -1,5 +1,5 @@
 use Rattle.std.proofs.Common.{◌≡◌, take, map}
-use Rattle.ev_terms.specs.Subst.{fill, instance}
+use Rattle.ev_terms.specs.Substitution.{fill, instance}
 use Rattle.ev_kernel.proofs.quantifiers.are_instances.Given as goal
 
 abbrev pub invariant-loop-i : goal.invariant-loop-i
