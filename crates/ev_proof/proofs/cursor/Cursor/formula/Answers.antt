@@ -1,0 +1,14 @@
+use Rattle.std.proofs.Common.{subst, sym, None}
+use Rattle.ev_parse.specs.Items.{ItemAnswer}
+use Rattle.ev_proof.specs.Depths.{limit}
+use Rattle.ev_proof.proofs.PieceLaws.{formula_took, no_formula_took}
+use Rattle.ev_proof.proofs.cursor.Cursor.formula.Goals as goal
+
+pub returns-in-Some-2 : goal.returns-in-Some-2
+returns-in-Some-2 c =
+    formula_took c.args.sort c.self.inside.reader.now c.in-Some.at c.in-Some-2.to c.self.inside.at c.args.self.now c.in-Some-2.piece c.whole.result c.in-Some.is (sym c.self.view_is)
+    (subst (ItemAnswer c.args.sort limit c.self.inside.reader.now c.in-Some.at) c.in-Some-2.is c.in_ok-piece.ensures) c.whole.ensures
+
+pub returns-in-None : goal.returns-in-None
+returns-in-None c = no_formula_took c.args.sort c.self.inside.reader.now c.in-Some.at c.self.inside.at c.args.self.now None c.in-Some.is (sym c.self.view_is)
+    (subst (ItemAnswer c.args.sort limit c.self.inside.reader.now c.in-Some.at) c.in-None.is c.in_ok-piece.ensures)

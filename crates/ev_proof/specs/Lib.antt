@@ -1,0 +1,6 @@
+pub mod Fronts
+pub mod Steps
+pub mod Depths
+pub mod Lines
+pub mod StepLaws
+pub mod inner
