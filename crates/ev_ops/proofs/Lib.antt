@@ -1,0 +1,13 @@
+pub mod Basics
+pub mod UnfoldEquation
+pub mod UnfoldLaws
+pub mod UnfoldApplication
+pub mod Commuting
+pub mod Fitting
+pub mod Keeping
+pub mod Basing
+pub mod BaseGood
+pub mod OverWhole
+pub mod Kept
+pub mod Guarding
+pub mod Admitting

@@ -1,0 +1,4 @@
+pub mod Admission
+pub mod Unfold
+pub mod UnfoldLaws
+pub mod inner

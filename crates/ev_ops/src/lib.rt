@@ -1,0 +1,21 @@
+//! Operators: which are admitted, their unfolding, and the environments that elements make. Source: Butler and Maamria, Practical
+//! Theory Extension in Event-B.
+#![tactic(auto)]
+
+pub mod admission;
+pub mod cases;
+mod faults;
+mod guards;
+pub mod kept_bodies;
+pub mod unfold_laws;
+pub mod unfolding;
+
+pub use admission::{admit_direct, admit_recursive};
+pub use cases::{Case, Cases};
+pub use faults::OpFault;
+pub use kept_bodies::Bodies;
+pub use unfold_laws::{
+    unfolded_application, unfolded_is_plain, unfolded_keeps_types, unfolding_commutes,
+    wholes_keep_unfolding,
+};
+pub use unfolding::{unfold, unfold_sequent};
