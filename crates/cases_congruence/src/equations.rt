@@ -1,0 +1,43 @@
+ghost use Rattle.std.specs.Prelude.{◌≡◌, []};
+ghost use Rattle.ev_kernel.specs.Derivable.{IsDerivation};
+
+use crate::case::Case;
+use crate::premises::premise;
+use ev_congruence::{Equation, symmetry};
+use ev_kernel::Lines;
+use ev_terms::NoMemory;
+use ev_typing::{Env, Sequent};
+use std::alloc::Global;
+
+/// The equation with its sides exchanged.
+fn exchanged(
+    alloc: Global,
+    env: &Env,
+    lines: &mut Lines,
+    at: &Sequent,
+    sides: &Equation,
+) -> Result<Option<u128>, NoMemory>
+    requires { IsDerivation env.now lines.old }
+{
+    match premise(alloc, env, lines, at, sides)? {
+        Some(number) => Ok(Some(symmetry(alloc, env, lines, at, sides, number)?)),
+        None => Ok(None),
+    }
+}
+
+/// The number of the line by `symmetry`.
+pub fn by_equations(
+    alloc: Global,
+    call: &str,
+    case: &Case,
+    lines: &mut Lines,
+) -> Result<Option<u128>, NoMemory>
+    requires { lines.old ≡ [] }
+{
+    let env = Env::new(alloc);
+    let at = &case.at;
+    match (call, case.equations.as_slice()) {
+        ("symmetry", [sides]) => exchanged(alloc, &env, lines, at, sides),
+        _ => Ok(None),
+    }
+}

@@ -1,0 +1,4 @@
+pub mod Growing
+pub mod Settings
+pub mod Equating
+pub mod inner

@@ -1,0 +1,16 @@
+//! Lines by derived rules, and congruence.
+#![tactic(auto)]
+
+pub mod adding;
+mod forming;
+pub mod moves;
+pub mod walking;
+
+pub use adding::{added_lines, from_lines, from_none, from_one, from_two};
+pub use forming::{equated_beside, filled, make_equation, with_goal};
+pub use moves::{
+    Equation, instantiated, lengthened, modus_ponens, reflexivity, symmetry, transitivity, weakened,
+};
+pub use walking::{
+    Application, Change, Pairs, congruence_at_child, congruence_beside, congruence_of, filled_terms,
+};
