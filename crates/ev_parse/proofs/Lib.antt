@@ -13,3 +13,7 @@ pub mod ItemMoves
 pub mod WholeMoves
 pub mod FrontMoves
 pub mod Heights
+pub mod Takings
+pub mod PieceLaws
+pub mod Listing
+pub mod SmallTokens

@@ -4,3 +4,5 @@ pub mod Closings
 pub mod Frames
 pub mod Braces
 pub mod FormulaAnswers
+pub mod Taking
+pub mod Places

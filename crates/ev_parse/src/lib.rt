@@ -2,7 +2,9 @@
 //! Mathematical Language; Butler and Maamria, Practical Theory Extension in Event-B.
 #![tactic(auto)]
 
+pub mod blanks;
 mod closings;
+pub mod cursor;
 mod endings;
 mod expression_reader;
 pub mod formula;
@@ -11,6 +13,7 @@ mod frame_steps;
 pub mod front;
 pub mod items;
 mod list_steps;
+pub mod lists;
 mod literal_steps;
 mod machine;
 mod marks;

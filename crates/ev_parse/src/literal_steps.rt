@@ -19,7 +19,7 @@ ghost use Rattle.ev_parse.specs.inner.Frames.{stage_tail, related_behind, meanin
 
 use crate::marks::is_relation;
 use crate::raw_pieces::{around_piece, binary_piece, is_name, quantified_piece};
-use crate::states::{FormulaStep, Frame, Goal, RawPiece, Stage, State};
+use crate::states::{FormulaStep, Frame, Goal, RawPiece, Source, Stage, State};
 use ev_syntax::TokenKind;
 use ev_syntax::binders::Binders;
 use ev_syntax::machines::Step;
@@ -27,7 +27,6 @@ use ev_syntax::mark_names::{AND_SIGN, CLOSE_PAREN, FINITE_WORD, IFF_SIGN, IMPLIE
 use ev_syntax::read_pieces::Piece;
 use ev_syntax::reader::Reader;
 use ev_terms::NoMemory;
-use std::alloc::Global;
 
 /// Whether a connective stands at a place.
 pub fn connects(reader: &Reader<'_>, at: usize) -> bool
@@ -41,9 +40,7 @@ pub fn connects(reader: &Reader<'_>, at: usize) -> bool
 
 /// After an operand and an infix sign. Those of two levels do not associate.
 pub(crate) fn after_sign(
-    reader: &Reader<'_>,
-    alloc: Global,
-    limit: u32,
+    source: &Source<'_>,
     mark: u16,
     level: u8,
     left: RawPiece,
@@ -51,10 +48,10 @@ pub(crate) fn after_sign(
     piece: RawPiece,
     at: usize,
 ) -> Result<FormulaStep, NoMemory>
-    ensures holds { Resumes (meaning limit reader.now) (Frame.Right mark level left k) piece at result }
-    ensures falls { Falls (meaning limit reader.now) (weight_at reader.now at 6) result }
+    ensures holds { Resumes (meaning source.now.limit source.now.reader.now) (Frame.Right mark level left k) piece at result }
+    ensures falls { Falls (meaning source.now.limit source.now.reader.now) (weight_at source.now.reader.now at 6) result }
 {
-    let piece = binary_piece(alloc, limit, mark, left, piece)?;
+    let piece = binary_piece(source.alloc, source.limit, mark, left, piece)?;
     if level == 4 || level >= 8 {
         return Ok(Step::Go(State::Operand(piece, at, level, k)));
     }
@@ -63,16 +60,15 @@ pub(crate) fn after_sign(
 
 /// After `(`, a predicate.
 pub(crate) fn after_paren(
-    reader: &Reader<'_>,
-    limit: u32,
+    source: &Source<'_>,
     stage: Stage,
     piece: RawPiece,
     at: usize,
 ) -> Result<FormulaStep, NoMemory>
-    ensures holds { Resumes (meaning limit reader.now) (Frame.Inner stage) piece at result }
-    ensures falls { Falls (meaning limit reader.now) (weight_at reader.now at 6) result }
+    ensures holds { Resumes (meaning source.now.limit source.now.reader.now) (Frame.Inner stage) piece at result }
+    ensures falls { Falls (meaning source.now.limit source.now.reader.now) (weight_at source.now.reader.now at 6) result }
 {
-    if reader.is_mark(at, CLOSE_PAREN) {
+    if source.reader.is_mark(at, CLOSE_PAREN) {
         return Ok(Step::Go(State::Literal(piece, at + 1, stage)));
     }
     Ok(Step::Fail)
@@ -80,48 +76,44 @@ pub(crate) fn after_paren(
 
 /// After `finite(`.
 pub(crate) fn after_finite(
-    reader: &Reader<'_>,
-    alloc: Global,
-    limit: u32,
+    source: &Source<'_>,
     stage: Stage,
     piece: RawPiece,
     at: usize,
 ) -> Result<FormulaStep, NoMemory>
-    ensures holds { Resumes (meaning limit reader.now) (Frame.Finite stage) piece at result }
-    ensures falls { Falls (meaning limit reader.now) (weight_at reader.now at 6) result }
+    ensures holds { Resumes (meaning source.now.limit source.now.reader.now) (Frame.Finite stage) piece at result }
+    ensures falls { Falls (meaning source.now.limit source.now.reader.now) (weight_at source.now.reader.now at 6) result }
 {
-    if !reader.is_mark(at, CLOSE_PAREN) {
+    if !source.reader.is_mark(at, CLOSE_PAREN) {
         return Ok(Step::Fail);
     }
-    let piece = around_piece(alloc, limit, FINITE_WORD, piece)?;
+    let piece = around_piece(source.alloc, source.limit, FINITE_WORD, piece)?;
     Ok(Step::Go(State::Literal(piece, at + 1, stage)))
 }
 
 /// After `!xs .` or `#xs .`.
 pub(crate) fn after_quantifier(
-    reader: &Reader<'_>,
-    alloc: Global,
-    limit: u32,
+    source: &Source<'_>,
     mark: u16,
     binders: Piece<Binders>,
     stage: Stage,
     piece: RawPiece,
     at: usize,
 ) -> Result<FormulaStep, NoMemory>
-    ensures holds { Resumes (meaning limit reader.now) (Frame.Quantified mark binders stage) piece at result }
-    ensures falls { Falls (meaning limit reader.now) (weight_at reader.now at 6) result }
+    ensures holds { Resumes (meaning source.now.limit source.now.reader.now) (Frame.Quantified mark binders stage) piece at result }
+    ensures falls { Falls (meaning source.now.limit source.now.reader.now) (weight_at source.now.reader.now at 6) result }
 {
-    if connects(reader, at) {
+    if connects(source.reader, at) {
         return Ok(Step::Fail);
     }
-    let piece = quantified_piece(alloc, limit, mark, binders, piece)?;
+    let piece = quantified_piece(source.alloc, source.limit, mark, binders, piece)?;
     Ok(Step::Go(State::Literal(piece, at, stage)))
 }
 
 /// A name alone that is a predicate.
-fn named(reader: &Reader<'_>, limit: u32, stage: Stage, piece: RawPiece, at: usize) -> FormulaStep
-    ensures holds { (whole : ℕ → Option (Found RawTree)) → (bs : List (Behind RawTree)) → (r : RawTree) → IsRaw limit piece r → Reach whole (bs ++ stage_tail stage) (parser.call_only r (drop at reader.now)) → at ≤ length reader.now → StepHolds (meaning limit reader.now) whole bs result }
-    ensures falls { Falls (meaning limit reader.now) (weight_at reader.now at 6) (Ok result) }
+fn named(source: &Source<'_>, stage: Stage, piece: RawPiece, at: usize) -> FormulaStep
+    ensures holds { (whole : ℕ → Option (Found RawTree)) → (bs : List (Behind RawTree)) → (r : RawTree) → IsRaw source.now.limit piece r → Reach whole (bs ++ stage_tail stage) (parser.call_only r (drop at source.now.reader.now)) → at ≤ length source.now.reader.now → StepHolds (meaning source.now.limit source.now.reader.now) whole bs result }
+    ensures falls { Falls (meaning source.now.limit source.now.reader.now) (weight_at source.now.reader.now at 6) (Ok result) }
 {
     if is_name(&piece) {
         Step::Go(State::Literal(piece, at, stage))
@@ -132,40 +124,38 @@ fn named(reader: &Reader<'_>, limit: u32, stage: Stage, piece: RawPiece, at: usi
 
 /// Goes on behind an expression before a mark: with a relation, or not.
 fn related_mark(
-    reader: &Reader<'_>,
-    limit: u32,
+    source: &Source<'_>,
     stage: Stage,
     piece: RawPiece,
     at: usize,
     mark: u16,
 ) -> FormulaStep
-    requires inside { IsIndex reader.now at }
-    requires token { IsTokenAt (Some (AMark mark)) reader.now at }
-    ensures holds { GoesOn (meaning limit reader.now) (stage_tail stage ++ related_behind ∷ []) piece at (Ok result) }
-    ensures falls { Falls (meaning limit reader.now) (weight_at reader.now at 6) (Ok result) }
+    requires inside { IsIndex source.now.reader.now at }
+    requires token { IsTokenAt (Some (AMark mark)) source.now.reader.now at }
+    ensures holds { GoesOn (meaning source.now.limit source.now.reader.now) (stage_tail stage ++ related_behind ∷ []) piece at (Ok result) }
+    ensures falls { Falls (meaning source.now.limit source.now.reader.now) (weight_at source.now.reader.now at 6) (Ok result) }
 {
     if is_relation(mark) {
         let inner = State::Call(Goal::Level(0), at + 1);
         return Step::Push(Frame::Relation(mark, piece, stage), inner);
     }
-    named(reader, limit, stage, piece, at)
+    named(source, stage, piece, at)
 }
 
 /// Before a relation, or a name that is a predicate.
 pub(crate) fn after_expression(
-    reader: &Reader<'_>,
-    limit: u32,
+    source: &Source<'_>,
     stage: Stage,
     piece: RawPiece,
     at: usize,
 ) -> FormulaStep
-    ensures holds { GoesOn (meaning limit reader.now) (stage_tail stage ++ related_behind ∷ []) piece at (Ok result) }
-    ensures falls { Falls (meaning limit reader.now) (weight_at reader.now at 6) (Ok result) }
+    ensures holds { GoesOn (meaning source.now.limit source.now.reader.now) (stage_tail stage ++ related_behind ∷ []) piece at (Ok result) }
+    ensures falls { Falls (meaning source.now.limit source.now.reader.now) (weight_at source.now.reader.now at 6) (Ok result) }
 {
-    match reader.kind(at) {
-        Some(TokenKind::Mark(mark)) => related_mark(reader, limit, stage, piece, at, mark),
-        Some(TokenKind::Name) => named(reader, limit, stage, piece, at),
-        Some(TokenKind::Number(_)) => named(reader, limit, stage, piece, at),
-        None => named(reader, limit, stage, piece, at),
+    match source.reader.kind(at) {
+        Some(TokenKind::Mark(mark)) => related_mark(source, stage, piece, at, mark),
+        Some(TokenKind::Name) => named(source, stage, piece, at),
+        Some(TokenKind::Number(_)) => named(source, stage, piece, at),
+        None => named(source, stage, piece, at),
     }
 }

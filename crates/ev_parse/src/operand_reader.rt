@@ -19,36 +19,32 @@ ghost use Rattle.ev_parse.specs.inner.Frames.{between, tail, level_behind, meani
 
 use crate::marks::operator_level;
 use crate::raw_pieces::{inverse_piece, typed_piece};
-use crate::states::{FormulaStep, Frame, Goal, RawPiece, State};
+use crate::states::{FormulaStep, Frame, Goal, RawPiece, Source, State};
 use ev_syntax::TokenKind;
 use ev_syntax::machines::Step;
 use ev_syntax::mark_names::{INVERSE_SIGN, OFTYPE_WORD, OPEN_BRACKET, OPEN_PAREN};
-use ev_syntax::reader::Reader;
 use ev_syntax::type_reader::read_type;
 use ev_terms::NoMemory;
-use std::alloc::Global;
 
 /// Goes on behind a primary: with `~`, an argument, an image, or as an operand.
 pub(crate) fn primary(
-    reader: &Reader<'_>,
-    alloc: Global,
-    limit: u32,
+    source: &Source<'_>,
     piece: RawPiece,
     at: usize,
     k: u8,
 ) -> Result<FormulaStep, NoMemory>
-    ensures holds { GoesOn (meaning limit reader.now) (tail k) piece at result }
-    ensures falls { Falls (meaning limit reader.now) (weight_at reader.now at 3) result }
+    ensures holds { GoesOn (meaning source.now.limit source.now.reader.now) (tail k) piece at result }
+    ensures falls { Falls (meaning source.now.limit source.now.reader.now) (weight_at source.now.reader.now at 3) result }
 {
-    if reader.is_mark(at, INVERSE_SIGN) {
-        let piece = inverse_piece(alloc, limit, piece)?;
+    if source.reader.is_mark(at, INVERSE_SIGN) {
+        let piece = inverse_piece(source.alloc, source.limit, piece)?;
         return Ok(Step::Go(State::Primary(piece, at + 1, k)));
     }
-    if reader.is_mark(at, OPEN_PAREN) {
+    if source.reader.is_mark(at, OPEN_PAREN) {
         let inner = State::Call(Goal::Level(0), at + 1);
         return Ok(Step::Push(Frame::Argument(piece, k), inner));
     }
-    if reader.is_mark(at, OPEN_BRACKET) {
+    if source.reader.is_mark(at, OPEN_BRACKET) {
         let inner = State::Call(Goal::Level(0), at + 1);
         return Ok(Step::Push(Frame::Image(piece, k), inner));
     }
@@ -63,21 +59,15 @@ fn in_range(level: u8, j: u8, k: u8) -> bool
 }
 
 /// Reads the type behind `oftype`.
-fn typed(
-    reader: &Reader<'_>,
-    alloc: Global,
-    limit: u32,
-    piece: RawPiece,
-    at: usize,
-) -> Result<FormulaStep, NoMemory>
-    requires inside { IsIndex reader.now at }
-    requires token { IsTokenAt (Some (AMark OFTYPE_WORD)) reader.now at }
-    ensures holds { GoesOn (meaning limit reader.now) (level_behind 0 ∷ []) piece at result }
-    ensures falls { Falls (meaning limit reader.now) (weight_at reader.now at 2) result }
+fn typed(source: &Source<'_>, piece: RawPiece, at: usize) -> Result<FormulaStep, NoMemory>
+    requires inside { IsIndex source.now.reader.now at }
+    requires token { IsTokenAt (Some (AMark OFTYPE_WORD)) source.now.reader.now at }
+    ensures holds { GoesOn (meaning source.now.limit source.now.reader.now) (level_behind 0 ∷ []) piece at result }
+    ensures falls { Falls (meaning source.now.limit source.now.reader.now) (weight_at source.now.reader.now at 2) result }
 {
-    match read_type(reader, alloc, limit, at + 1)? {
+    match read_type(source.reader, source.alloc, source.limit, at + 1)? {
         Some((written, to)) => {
-            let piece = typed_piece(alloc, limit, piece, written)?;
+            let piece = typed_piece(source.alloc, source.limit, piece, written)?;
             Ok(Step::Found(piece, to))
         }
         None => Ok(Step::Fail),
@@ -86,19 +76,17 @@ fn typed(
 
 /// Goes on behind an operand before a mark.
 fn operand_mark(
-    reader: &Reader<'_>,
-    alloc: Global,
-    limit: u32,
+    source: &Source<'_>,
     piece: RawPiece,
     at: usize,
     j: u8,
     k: u8,
     mark: u16,
 ) -> Result<FormulaStep, NoMemory>
-    requires inside { IsIndex reader.now at }
-    requires token { IsTokenAt (Some (AMark mark)) reader.now at }
-    ensures holds { GoesOn (meaning limit reader.now) (between k j) piece at result }
-    ensures falls { Falls (meaning limit reader.now) (weight_at reader.now at 2) result }
+    requires inside { IsIndex source.now.reader.now at }
+    requires token { IsTokenAt (Some (AMark mark)) source.now.reader.now at }
+    ensures holds { GoesOn (meaning source.now.limit source.now.reader.now) (between k j) piece at result }
+    ensures falls { Falls (meaning source.now.limit source.now.reader.now) (weight_at source.now.reader.now at 2) result }
 {
     let level = operator_level(mark);
     if in_range(level, j, k) {
@@ -114,24 +102,22 @@ fn operand_mark(
     if j == 0 {
         return Ok(Step::Found(piece, at));
     }
-    typed(reader, alloc, limit, piece, at)
+    typed(source, piece, at)
 }
 
 /// Goes on behind an operand: with an infix sign of a level from k on below j, with `oftype`, or not.
 pub(crate) fn operand(
-    reader: &Reader<'_>,
-    alloc: Global,
-    limit: u32,
+    source: &Source<'_>,
     piece: RawPiece,
     at: usize,
     j: u8,
     k: u8,
 ) -> Result<FormulaStep, NoMemory>
-    ensures holds { GoesOn (meaning limit reader.now) (between k j) piece at result }
-    ensures falls { Falls (meaning limit reader.now) (weight_at reader.now at 2) result }
+    ensures holds { GoesOn (meaning source.now.limit source.now.reader.now) (between k j) piece at result }
+    ensures falls { Falls (meaning source.now.limit source.now.reader.now) (weight_at source.now.reader.now at 2) result }
 {
-    match reader.kind(at) {
-        Some(TokenKind::Mark(mark)) => operand_mark(reader, alloc, limit, piece, at, j, k, mark),
+    match source.reader.kind(at) {
+        Some(TokenKind::Mark(mark)) => operand_mark(source, piece, at, j, k, mark),
         Some(TokenKind::Name) => Ok(Step::Found(piece, at)),
         Some(TokenKind::Number(_)) => Ok(Step::Found(piece, at)),
         None => Ok(Step::Found(piece, at)),

@@ -4,7 +4,17 @@ use ev_syntax::formulas::{Raw, Raws};
 use ev_syntax::machines::Step;
 use ev_syntax::pattern_states::PatternPiece;
 use ev_syntax::read_pieces::Piece;
+use ev_syntax::reader::Reader;
 use ev_terms::Name;
+use std::alloc::Global;
+
+/// The tokens that are read, where trees are kept, and how deep they may nest.
+#[derive(Clone, Copy)]
+pub(crate) struct Source<'a> {
+    pub reader: &'a Reader<'a>,
+    pub alloc: Global,
+    pub limit: u32,
+}
 
 /// A formula and its nesting, or one that nests too deeply and is not built: whether that is a name, with arguments or with none.
 #[derive(Drop)]

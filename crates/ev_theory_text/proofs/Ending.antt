@@ -13,10 +13,11 @@ use Rattle.ev_syntax.proofs.RunLaws.{as_shrinks}
 use Rattle.ev_theory_text.specs.declared.forms.RawBranch.{RawBranch}
 use Rattle.ev_theory_text.specs.declared.forms.RawBody.{RawBody}
 use Rattle.ev_theory_text.specs.declared.forms.RawBody.TheVariants.{Direct, Recursive}
-use Rattle.ev_theory_text.specs.Fronts.{Maybe, AtLeastOne, MaybeMark}
-use Rattle.ev_theory_text.specs.Elements.{Word, ReadsArg, ReadsCon, BehindCase, ReadsBranch, ReadsBody, Clause}
-use Rattle.ev_theory_text.specs.inner.Taking.{Anything, NotBefore, AtEnd, EndsType, EndsArgs, NoParen, EndsCons, EndsFormula, EndsCases, EndsBranches, EndsGivens, begins_branch}
-use Rattle.ev_theory_text.proofs.Listing.{Ties, mark_ties}
+use Rattle.ev_parse.specs.Sequences.{Maybe, AtLeastOne, MaybeMark, Word}
+use Rattle.ev_theory_text.specs.Elements.{ReadsArg, ReadsCon, BehindCase, ReadsBranch, ReadsBody, Clause}
+use Rattle.ev_theory_text.specs.inner.Following.{EndsArgs, NoParen, EndsCons, EndsCases, EndsBranches, EndsGivens, begins_branch}
+use Rattle.ev_parse.specs.inner.Taking.{Anything, NotBefore, AtEnd, EndsType, EndsFormula}
+use Rattle.ev_parse.proofs.Listing.{Ties, mark_ties}
 
 -- lists
 pub args_ties : Ties (λ a. Is (mark comma) then ReadsArg a) EndsArgs EndsType (begins comma)

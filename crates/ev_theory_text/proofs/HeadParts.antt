@@ -18,12 +18,14 @@ use Rattle.ev_theory_text.specs.declared.forms.RawResult.TheVariants.{Predicate,
 use Rattle.ev_theory_text.specs.declared.forms.RawCase.{RawCase}
 use Rattle.ev_theory_text.specs.declared.forms.RawBody.{RawBody}
 use Rattle.ev_theory_text.specs.declared.forms.RawBody.TheVariants.{Direct, Recursive}
-use Rattle.ev_theory_text.specs.Fronts.{Maybe, AtLeastOne, MaybeMark}
-use Rattle.ev_theory_text.specs.Elements.{Word, ReadsArg, InParens, ReadsResult, ReadsHead, ReadsCase, ReadsBody, Clause, sort_of, head_sort}
-use Rattle.ev_theory_text.specs.Depths.{formula_deep, type_deep, result_deep, maybe_deep, body_deep, case_deep}
-use Rattle.ev_theory_text.specs.inner.Taking.{State, next_is, behind, behind_mark, Took, Tagged, sort_behind, Anything, NotBefore, EndsType, NoParen, EndsFormula, EndsClause, EndsCases, never}
-use Rattle.ev_theory_text.specs.inner.Making.{both, typed, direct, recursive}
-use Rattle.ev_theory_text.proofs.Takings.{behind_here, took_then, took_as, took_ends, took_none, took_some, mark_took}
+use Rattle.ev_parse.specs.Sequences.{Maybe, AtLeastOne, MaybeMark, Word}
+use Rattle.ev_theory_text.specs.Elements.{ReadsArg, InParens, ReadsResult, ReadsHead, ReadsCase, ReadsBody, Clause, sort_of, head_sort}
+use Rattle.ev_parse.specs.Depths.{formula_deep, type_deep}
+use Rattle.ev_theory_text.specs.Depths.{result_deep, maybe_deep, body_deep, case_deep}
+use Rattle.ev_theory_text.specs.inner.Following.{sort_behind, NoParen, EndsClause, EndsCases}
+use Rattle.ev_parse.specs.inner.Taking.{State, next_is, behind, behind_mark, Took, Tagged, Anything, NotBefore, EndsType, EndsFormula, never, both}
+use Rattle.ev_theory_text.specs.inner.Making.{typed, direct, recursive}
+use Rattle.ev_parse.proofs.Takings.{behind_here, took_then, took_as, took_ends, took_none, took_some, mark_took}
 
 -- no type begins with PRED
 number_of : List Token → ℕ

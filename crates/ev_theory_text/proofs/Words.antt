@@ -13,9 +13,9 @@ use Rattle.ev_theory_text.specs.declared.forms.ElementForm.{ElementForm}
 use Rattle.ev_theory_text.specs.declared.forms.ElementForm.TheVariants.{Import, Param, Datatype, Operator, Constant, Axiom, Theorem, Rewrite, Inference}
 use Rattle.ev_theory_text.specs.Elements.{ReadsForm, first_word, OfWord}
 use Rattle.ev_theory_text.specs.Depths.{form_deep}
-use Rattle.ev_theory_text.specs.inner.Taking.{State, TakesFrom, Took}
+use Rattle.ev_parse.specs.inner.Taking.{State, TakesFrom, Took}
 use Rattle.ev_theory_text.specs.inner.Making.{import_form, param_form, datatype_form, operator_form, constant_form, axiom_form, theorem_form, rewrite_form, inference_form}
-use Rattle.ev_theory_text.proofs.Takings.{map_kept}
+use Rattle.ev_parse.proofs.Takings.{map_kept}
 
 -- the forms of a word
 pub of_import : (b : ElementForm) → first_word b ≡ import_word → (a : List ℕ) × (b ≡ import_form a)

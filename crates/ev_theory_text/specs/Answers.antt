@@ -1,5 +1,5 @@
 -- What a part of a theory text is.
-use Rattle.std.specs.Prelude.{◌≡◌, ℕ, ◌⊎◌, true, false, List, [], Option, Some, None}
+use Rattle.std.specs.Prelude.{◌≡◌, ℕ, ◌⊎◌, Bool, true, false, List, [], Option, Some, None}
 use Rattle.std.specs.List.{list_any}
 use Rattle.ev_syntax.specs.Tokens.{Token, Tokens, IsBadText, HasTooLarge, is_too_large}
 use Rattle.ev_theory_text.specs.declared.forms.ElementForm.{ElementForm}
@@ -25,10 +25,11 @@ ElementOf ts (Bad Syntax) = (form : ElementForm) → ¬ ReadsForm form ts []
 ElementOf ts (Bad Deep) = (form : ElementForm) × IsForm ts form × (form_deep form ≡ true)
 ElementOf ts (Read form) = IsForm ts form × (form_deep form ≡ false)
 
--- what all the tokens are, by the form that is kept of them
-abbrev pub whole_element : Option ElementForm → RawElement
-whole_element None = Bad Deep
-whole_element (Some form) = Read form
+-- what tokens are, by whether a form took all of them, and by what is kept of it
+abbrev pub whole_element : Bool → Option ElementForm → RawElement
+whole_element false form = Bad Syntax
+whole_element true None = Bad Deep
+whole_element true (Some form) = Read form
 
 -- the kind that a part without good tokens has
 abbrev pub IsBadPart : List ℕ → Type 0

@@ -1,7 +1,8 @@
 -- Elements in which a formula or a type is nested too deeply.
-use Rattle.std.specs.Prelude.{ℕ, Bool, false, ◌||◌, nat_lt, List, Option, Some, None}
+use Rattle.std.specs.Prelude.{ℕ, Bool, false, ◌||◌, List, Option, Some, None}
 use Rattle.std.specs.List.{list_any}
-use Rattle.ev_syntax.specs.Raw.{RawType, Raw, nesting, type_nesting}
+use Rattle.ev_syntax.specs.Raw.{Raw}
+use Rattle.ev_parse.specs.Depths.{formula_deep, type_deep}
 use Rattle.ev_theory_text.specs.declared.forms.RawArg.{RawArg}
 use Rattle.ev_theory_text.specs.declared.forms.RawCon.{RawCon}
 use Rattle.ev_theory_text.specs.declared.forms.RawResult.{RawResult}
@@ -13,16 +14,6 @@ use Rattle.ev_theory_text.specs.declared.forms.RawBody.TheVariants.{Direct, Recu
 use Rattle.ev_theory_text.specs.declared.forms.RawBranch.{RawBranch}
 use Rattle.ev_theory_text.specs.declared.forms.ElementForm.{ElementForm}
 use Rattle.ev_theory_text.specs.declared.forms.ElementForm.TheVariants.{Import, Param, Datatype, Operator, Constant, Axiom, Theorem, Rewrite, Inference}
-
--- how deep formulas and types of elements may be nested
-abbrev pub limit : ℕ
-limit = 200
-
-abbrev pub formula_deep : Raw → Bool
-formula_deep e = nat_lt limit (nesting e)
-
-abbrev pub type_deep : RawType → Bool
-type_deep a = nat_lt limit (type_nesting a)
 
 abbrev pub maybe_deep : Option Raw → Bool
 maybe_deep None = false

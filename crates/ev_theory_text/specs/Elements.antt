@@ -1,7 +1,7 @@
 -- The elements of theory texts, as a grammar: which form stands at the front of some tokens.
 use Rattle.std.specs.Prelude.{◌≡◌, ℕ, true, List}
 use Rattle.ev_syntax.specs.Marks.{open_paren, close_paren, comma, in_sign, equal_sign, bar, pred_word, import_word, param_word, datatype_word, operator_word, constant_word, axiom_word, theorem_word, rewrite_word, inference_word, where_word, is_word, by_word, case_word, for_word, when_word, then_word, complete_word, given_word, infer_word}
-use Rattle.ev_syntax.specs.Tokens.{name, mark}
+use Rattle.ev_syntax.specs.Tokens.{mark}
 use Rattle.ev_syntax.specs.Raw.{Raw}
 use Rattle.ev_syntax.specs.Grammar.{Front, Is, ◌then◌, ReadsType}
 use Rattle.ev_syntax.specs.declared.sorts.Sort.{Sort}
@@ -18,10 +18,7 @@ use Rattle.ev_theory_text.specs.declared.forms.RawBody.TheVariants.{Direct, Recu
 use Rattle.ev_theory_text.specs.declared.forms.RawBranch.{RawBranch}
 use Rattle.ev_theory_text.specs.declared.forms.ElementForm.{ElementForm}
 use Rattle.ev_theory_text.specs.declared.forms.ElementForm.TheVariants.{Import, Param, Datatype, Operator, Constant, Axiom, Theorem, Rewrite, Inference}
-use Rattle.ev_theory_text.specs.Fronts.{Nothing, Maybe, AtLeastOne, Separated, MaybeBegun, MaybeMark}
-
-abbrev pub Word : List ℕ → Front
-Word n = Is (name n)
+use Rattle.ev_parse.specs.Sequences.{Word, Nothing, Maybe, AtLeastOne, Separated, MaybeBegun, MaybeMark}
 
 abbrev pub ReadsNames : List (List ℕ) → Front
 ReadsNames names = Separated comma Word names

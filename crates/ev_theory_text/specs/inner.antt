@@ -1,3 +1,2 @@
-pub mod Taking
-pub mod Places
+pub mod Following
 pub mod Making

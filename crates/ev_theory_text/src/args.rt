@@ -1,15 +1,16 @@
 //! Readers of names with types.
 ghost use Rattle.std.specs.Prelude.{◌≡◌, IfOk, option_map};
 ghost use Rattle.ev_syntax.specs.Marks.{comma};
-ghost use Rattle.ev_theory_text.specs.Fronts.{Further};
+ghost use Rattle.ev_parse.specs.Sequences.{Further};
 ghost use Rattle.ev_theory_text.specs.Elements.{ReadsArg, ReadsArgs, InParens, ReadsVars};
 ghost use Rattle.ev_theory_text.specs.Depths.{arg_deep, args_deep};
-ghost use Rattle.ev_theory_text.specs.inner.Taking.{Took, TookMore, EndsType, EndsArgs, NoParen, EndsVars};
-ghost use Rattle.ev_theory_text.specs.inner.Making.{arg, both};
+ghost use Rattle.ev_theory_text.specs.inner.Following.{EndsArgs, NoParen, EndsVars};
+ghost use Rattle.ev_parse.specs.inner.Taking.{Took, TookMore, EndsType, both};
+ghost use Rattle.ev_theory_text.specs.inner.Making.{arg};
 
-use crate::cursor::Cursor;
 use crate::forms::{RawArg, RawArgs};
-use crate::lists::{one, with};
+use ev_parse::cursor::Cursor;
+use ev_parse::lists::{one, with};
 use ev_syntax::RawType;
 use ev_syntax::mark_names::{CLOSE_PAREN, COMMA, FOR_WORD, IN_SIGN, OPEN_PAREN};
 use ev_terms::{ListOf, Name, NoMemory};

@@ -1,16 +1,17 @@
 //! Readers of the right sides of rewrite rules.
 ghost use Rattle.std.specs.Prelude.{◌≡◌, Some, IfOk, option_map};
 ghost use Rattle.std.specs.List.{list_any};
-ghost use Rattle.ev_theory_text.specs.Fronts.{Repeated, AtLeastOne, MaybeMark};
+ghost use Rattle.ev_parse.specs.Sequences.{Repeated, AtLeastOne, MaybeMark};
 ghost use Rattle.ev_theory_text.specs.Elements.{ReadsBranch};
 ghost use Rattle.ev_theory_text.specs.Depths.{branch_deep};
-ghost use Rattle.ev_theory_text.specs.inner.Taking.{Took, TookMore, EndsFormula, EndsBranches, NotBefore, next, begins_branch, never};
-ghost use Rattle.ev_theory_text.specs.inner.Making.{branch, both};
+ghost use Rattle.ev_theory_text.specs.inner.Following.{EndsBranches, begins_branch};
+ghost use Rattle.ev_parse.specs.inner.Taking.{Took, TookMore, EndsFormula, NotBefore, next, never, both};
+ghost use Rattle.ev_theory_text.specs.inner.Making.{branch};
 
-use crate::cursor::Cursor;
 use crate::forms::{RawBranch, RawBranches};
 use crate::heads::read_condition;
-use crate::lists::{one, with};
+use ev_parse::cursor::Cursor;
+use ev_parse::lists::{one, with};
 use ev_syntax::mark_names::{THEN_WORD, WHEN_WORD};
 use ev_syntax::{Raw, Sort};
 use ev_terms::NoMemory;

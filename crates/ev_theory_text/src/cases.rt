@@ -1,16 +1,17 @@
 //! Readers of what an operator is.
 ghost use Rattle.std.specs.Prelude.{◌≡◌, IfOk, option_map};
 ghost use Rattle.std.specs.List.{list_any};
-ghost use Rattle.ev_theory_text.specs.Fronts.{Repeated, AtLeastOne};
+ghost use Rattle.ev_parse.specs.Sequences.{Repeated, AtLeastOne};
 ghost use Rattle.ev_theory_text.specs.Elements.{BehindCase, ReadsCase, ReadsBody};
 ghost use Rattle.ev_theory_text.specs.Depths.{case_deep, body_deep};
-ghost use Rattle.ev_theory_text.specs.inner.Taking.{Took, TookMore, EndsFormula, EndsCases};
-ghost use Rattle.ev_theory_text.specs.inner.Making.{case_of, direct, recursive, both};
+ghost use Rattle.ev_theory_text.specs.inner.Following.{EndsCases};
+ghost use Rattle.ev_parse.specs.inner.Taking.{Took, TookMore, EndsFormula, both};
+ghost use Rattle.ev_theory_text.specs.inner.Making.{case_of, direct, recursive};
 
-use crate::cursor::Cursor;
 use crate::forms::{RawBody, RawCase, RawCases};
-use crate::lists::{one, with};
 use crate::names::names_in_parens;
+use ev_parse::cursor::Cursor;
+use ev_parse::lists::{one, with};
 use ev_syntax::mark_names::{BY_WORD, CASE_WORD, IS_WORD};
 use ev_syntax::{Raw, Sort};
 use ev_terms::{Name, Names, NoMemory};

@@ -1,16 +1,17 @@
 //! Readers of constructors.
 ghost use Rattle.std.specs.Prelude.{◌≡◌, IfOk, option_map};
 ghost use Rattle.ev_syntax.specs.Marks.{bar};
-ghost use Rattle.ev_theory_text.specs.Fronts.{Further};
+ghost use Rattle.ev_parse.specs.Sequences.{Further};
 ghost use Rattle.ev_theory_text.specs.Elements.{ReadsCon, ReadsCons};
 ghost use Rattle.ev_theory_text.specs.Depths.{con_deep, cons_deep};
-ghost use Rattle.ev_theory_text.specs.inner.Taking.{Took, TookMore, NoParen, EndsCons};
-ghost use Rattle.ev_theory_text.specs.inner.Making.{con, both};
+ghost use Rattle.ev_theory_text.specs.inner.Following.{NoParen, EndsCons};
+ghost use Rattle.ev_parse.specs.inner.Taking.{Took, TookMore, both};
+ghost use Rattle.ev_theory_text.specs.inner.Making.{con};
 
 use crate::args::args_in_parens;
-use crate::cursor::Cursor;
 use crate::forms::{RawArgs, RawCon, RawCons};
-use crate::lists::{one, with};
+use ev_parse::cursor::Cursor;
+use ev_parse::lists::{one, with};
 use ev_syntax::mark_names::BAR;
 use ev_terms::{Name, NoMemory};
 use std::alloc::Global;

@@ -5,9 +5,9 @@ ghost use Rattle.ev_syntax.specs.Tokens.{tokens_of};
 ghost use Rattle.ev_syntax.specs.Views.{all_seen_in, LiesIn};
 ghost use Rattle.ev_theory_text.specs.Answers.{IsElement, IsNoElement, ElementOf, whole_element};
 
-use crate::cursor::Cursor;
 use crate::form_reader::read_form;
 use crate::forms::ElementForm;
+use ev_parse::cursor::Cursor;
 use ev_syntax::{LexFault, Reader, Tokens, lex};
 use ev_terms::{ListOf, NoMemory};
 use std::alloc::Global;
@@ -30,10 +30,13 @@ pub enum RawElement {
 
 pub type RawElements = ListOf<RawElement>;
 
-/// What an answer is, where it took all the tokens.
-fn whole_element(form: Option<ElementForm>) -> RawElement
-    ensures { result ≡ whole_element form }
+/// What an answer is, by whether it took all the tokens.
+fn whole_element(is_at_end: bool, form: Option<ElementForm>) -> RawElement
+    ensures { result ≡ whole_element is_at_end form }
 {
+    if !is_at_end {
+        return RawElement::Bad(TextKind::Syntax);
+    }
     match form {
         Some(form) => RawElement::Read(form),
         None => RawElement::Bad(TextKind::Deep),
@@ -46,10 +49,7 @@ fn element_of(alloc: Global, reader: &Reader<'_>) -> Result<RawElement, NoMemory
 {
     let mut cursor = Cursor::new(alloc, reader)?;
     let form = read_form(&mut cursor, alloc)?;
-    if !cursor.is_at_end() {
-        return Ok(RawElement::Bad(TextKind::Syntax));
-    }
-    Ok(whole_element(form))
+    Ok(whole_element(cursor.is_at_end(), form))
 }
 
 fn element_in(alloc: Global, part: &[u8], tokens: &Tokens) -> Result<RawElement, NoMemory>

@@ -3,18 +3,18 @@ ghost use Rattle.std.specs.Prelude.{◌≡◌, IfOk, Some, option_map};
 ghost use Rattle.ev_syntax.specs.Marks.{import_word, param_word, datatype_word, operator_word, constant_word, axiom_word, theorem_word, rewrite_word, inference_word};
 ghost use Rattle.ev_theory_text.specs.Elements.{ReadsForm, Labelled, OfWord};
 ghost use Rattle.ev_theory_text.specs.Depths.{form_deep, labelled_deep};
-ghost use Rattle.ev_theory_text.specs.inner.Taking.{Took, AtEnd, EndsFormula};
-ghost use Rattle.ev_theory_text.specs.inner.Making.{both, import_form, param_form, datatype_form, operator_form, constant_form, axiom_form, theorem_form, rewrite_form, inference_form};
+ghost use Rattle.ev_parse.specs.inner.Taking.{Took, AtEnd, EndsFormula, both};
+ghost use Rattle.ev_theory_text.specs.inner.Making.{import_form, param_form, datatype_form, operator_form, constant_form, axiom_form, theorem_form, rewrite_form, inference_form};
 
 use crate::args::read_vars;
 use crate::branches::{maybe_mark, read_branches};
 use crate::cases::read_body;
-use crate::cursor::Cursor;
 use crate::datatypes::read_cons;
 use crate::forms::{ElementForm, RawArgs, RawBody, RawBranches, RawCons, RawHead};
 use crate::givens::read_givens;
 use crate::heads::{read_condition, read_head};
 use crate::names::{names_in_parens, read_names};
+use ev_parse::cursor::Cursor;
 use ev_syntax::mark_names::{
     AXIOM_WORD, COMPLETE_WORD, CONSTANT_WORD, DATATYPE_WORD, EQUAL_SIGN, IMPORT_WORD, IN_SIGN,
     INFER_WORD, INFERENCE_WORD, OPERATOR_WORD, PARAM_WORD, REWRITE_WORD, THEOREM_WORD, WHERE_WORD,

@@ -1,14 +1,15 @@
 //! Readers of heads and of conditions.
 ghost use Rattle.std.specs.Prelude.{◌≡◌, Some, IfOk, option_map};
-ghost use Rattle.ev_theory_text.specs.Fronts.{Maybe};
+ghost use Rattle.ev_parse.specs.Sequences.{Maybe};
 ghost use Rattle.ev_theory_text.specs.Elements.{ReadsResult, ReadsHead, Clause, head_sort};
 ghost use Rattle.ev_theory_text.specs.Depths.{result_deep, head_deep, maybe_deep};
-ghost use Rattle.ev_theory_text.specs.inner.Taking.{Took, Tagged, EndsType, EndsClause, sort_behind};
-ghost use Rattle.ev_theory_text.specs.inner.Making.{head, both, typed};
+ghost use Rattle.ev_theory_text.specs.inner.Following.{EndsClause, sort_behind};
+ghost use Rattle.ev_parse.specs.inner.Taking.{Took, Tagged, EndsType, both};
+ghost use Rattle.ev_theory_text.specs.inner.Making.{head, typed};
 
 use crate::args::args_in_parens;
-use crate::cursor::Cursor;
 use crate::forms::{RawArgs, RawHead, RawResult};
+use ev_parse::cursor::Cursor;
 use ev_syntax::mark_names::{IN_SIGN, PRED_WORD};
 use ev_syntax::{Raw, RawType, Sort};
 use ev_terms::{Name, NoMemory};

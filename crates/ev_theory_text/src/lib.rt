@@ -5,7 +5,6 @@
 mod args;
 mod branches;
 mod cases;
-mod cursor;
 mod cutting;
 mod datatypes;
 pub mod elements;
@@ -14,7 +13,6 @@ pub mod forms;
 mod givens;
 mod heads;
 mod imports;
-mod lists;
 mod names;
 mod theories;
 

@@ -2,12 +2,13 @@
 ghost use Rattle.std.specs.Prelude.{IfOk};
 ghost use Rattle.std.specs.List.{list_any};
 ghost use Rattle.ev_syntax.specs.Marks.{comma};
-ghost use Rattle.ev_theory_text.specs.Fronts.{Further};
-ghost use Rattle.ev_theory_text.specs.Elements.{Word, ReadsNames, InParens};
-ghost use Rattle.ev_theory_text.specs.inner.Taking.{Took, TookMore, NotBefore, NoParen, never};
+ghost use Rattle.ev_parse.specs.Sequences.{Further, Word};
+ghost use Rattle.ev_theory_text.specs.Elements.{ReadsNames, InParens};
+ghost use Rattle.ev_theory_text.specs.inner.Following.{NoParen};
+ghost use Rattle.ev_parse.specs.inner.Taking.{Took, TookMore, NotBefore, never};
 
-use crate::cursor::Cursor;
-use crate::lists::{one, with};
+use ev_parse::cursor::Cursor;
+use ev_parse::lists::{one, with};
 use ev_syntax::mark_names::{CLOSE_PAREN, COMMA, OPEN_PAREN};
 use ev_terms::{ListOf, Names, NoMemory};
 use std::alloc::Global;

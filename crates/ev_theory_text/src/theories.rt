@@ -1,25 +1,13 @@
 //! The elements of a theory text.
 ghost use Rattle.std.specs.Prelude.{◌≡◌, ◌<◌, ◌^◌, length, IfOk};
 ghost use Rattle.std.specs.List.{All};
-ghost use Rattle.ev_syntax.specs.Chars.{is_blank, are_blanks};
 ghost use Rattle.ev_theory_text.specs.Theories.{IsTheory, FrontElements, FurtherElements};
 
 use crate::cutting::cut;
 use crate::elements::{RawElements, read_element, read_front};
+use ev_parse::blanks::are_blanks;
 use ev_terms::NoMemory;
 use std::alloc::Global;
-
-fn is_blank(byte: u8) -> bool
-    ensures { result ≡ is_blank byte }
-{
-    (byte == b' ' || byte == b'\t') || (byte == b'\r' || byte == b'\n')
-}
-
-fn are_blanks(bytes: &[u8]) -> bool
-    ensures { result ≡ are_blanks bytes.now }
-{
-    bytes.iter().all(|byte| is_blank(*byte))
-}
 
 /// What stands before the first element keyword: nothing where it is blank, else one part that is no element.
 fn front_elements(alloc: Global, front: &[u8]) -> Result<RawElements, NoMemory>

@@ -1,5 +1,5 @@
 -- Forms made of their parts.
-use Rattle.std.specs.Prelude.{ℕ, Bool, List, Option, Some, None}
+use Rattle.std.specs.Prelude.{ℕ, Bool, List, Option}
 use Rattle.ev_syntax.specs.Raw.{RawType, Raw}
 use Rattle.ev_theory_text.specs.declared.forms.RawArg.{RawArg}
 use Rattle.ev_theory_text.specs.declared.forms.RawCon.{RawCon}
@@ -12,12 +12,6 @@ use Rattle.ev_theory_text.specs.declared.forms.RawBody.TheVariants.{Direct, Recu
 use Rattle.ev_theory_text.specs.declared.forms.RawBranch.{RawBranch}
 use Rattle.ev_theory_text.specs.declared.forms.ElementForm.{ElementForm}
 use Rattle.ev_theory_text.specs.declared.forms.ElementForm.TheVariants.{Import, Param, Datatype, Operator, Constant, Axiom, Theorem, Rewrite, Inference}
-
--- two parts, if both are kept
-abbrev pub both : {A B : Type 0} → Option A → Option B → Option (A × B)
-both None b = None
-both (Some a) None = None
-both (Some a) (Some b) = Some (a, b)
 
 abbrev pub arg : List ℕ × RawType → RawArg
 arg p = record { name = p.0; written = p.1 }

@@ -9,7 +9,7 @@ use Rattle.ev_parse.proofs.OperandMoves.{FoundBy}
 use Rattle.ev_parse.proofs.frame_steps.after_lambda.Goals as goal
 
 pub returns-then-is_mark-clause-holds : goal.returns-then-is_mark-clause-holds
-returns-then-is_mark-clause-holds c = λ whole bs cs r f p h le. let t = c.args.reader.now in let at = c.args.at in (
+returns-then-is_mark-clause-holds c = λ whole bs cs r f p h le. let t = c.args.source.now.reader.now in let at = c.args.at in (
   lambda_value_behind f.0 r ∷ [],
   (f.0, r, f.1, p, refl),
   (
@@ -22,5 +22,5 @@ returns-then-is_mark-clause-holds c = λ whole bs cs r f p h le. let t = c.args.
 )
 
 pub returns-clause-holds : goal.returns-clause-holds
-returns-clause-holds c = λ whole bs cs r f p h le. let t = c.args.reader.now in let at = c.args.at in
+returns-clause-holds c = λ whole bs cs r f p h le. let t = c.args.source.now.reader.now in let at = c.args.at in
     nothing_inside whole bs [] (found_inside whole bs [] (lambda_body_behind f.0) r (drop at t) None (subst (λ xs. FoundBy whole bs xs r (drop at t)) f.2 h) (λ n g. expect_no bar (drop at t) _ (sym c.is_mark.ensures.is ∙ c.if-is_mark.false)))

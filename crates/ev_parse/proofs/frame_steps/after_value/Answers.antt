@@ -8,7 +8,7 @@ use Rattle.ev_parse.proofs.OperandMoves.{FoundBy}
 use Rattle.ev_parse.proofs.frame_steps.after_value.Goals as goal
 
 pub returns-clause-holds : goal.returns-clause-holds
-returns-clause-holds c = λ whole bs cs r f p h le. let t = c.args.reader.now in let at = c.args.at in (
+returns-clause-holds c = λ whole bs cs r f p h le. let t = c.args.source.now.reader.now in let at = c.args.at in (
   lambda f.0 f.1 r,
   c.in_ok-piece.ensures f.0 f.1 r f.2 f.3 p,
   moves.bare_found whole bs (lambda f.0 f.1 r) (drop at t)

@@ -12,7 +12,7 @@ use Rattle.ev_parse.proofs.ListMoves as moves
 use Rattle.ev_parse.proofs.list_steps.after_args.Goals as goal
 
 pub returns-then-is_mark-clause-holds : goal.returns-then-is_mark-clause-holds
-returns-then-is_mark-clause-holds c = λ whole bs cs r f p h le. let t = c.args.reader.now in let at = c.args.at in
+returns-then-is_mark-clause-holds c = λ whole bs cs r f p h le. let t = c.args.source.now.reader.now in let at = c.args.at in
     let end : End = λ es us. expect close_paren us (λ rest. Some (call c.args.name es, rest)) in (
       tail c.args.k ++ args_behind c.args.name (f.0 ++ r ∷ []) ∷ [],
       (f.0 ++ r ∷ [], c.in_ok-args.ensures f.0 r f.1 p, refl),
@@ -24,7 +24,7 @@ returns-then-is_mark-clause-holds c = λ whole bs cs r f p h le. let t = c.args.
     )
 
 pub returns-clause-holds : goal.returns-clause-holds
-returns-clause-holds c = λ whole bs cs r f p h le. let t = c.args.reader.now in let at = c.args.at in
+returns-clause-holds c = λ whole bs cs r f p h le. let t = c.args.source.now.reader.now in let at = c.args.at in
     let end : End = λ es us. expect close_paren us (λ rest. Some (call c.args.name es, rest)) in
     c.close.ensures.holds whole bs (call c.args.name (raws (f.0 ++ r ∷ []))) (c.in_ok-piece.ensures (f.0 ++ r ∷ []) (c.in_ok-args.ensures f.0 r f.1 p))
     (moves.last end whole bs (tail c.args.k) f.0 r (drop at t) (sym c.is_mark.ensures.is ∙ c.if-is_mark.false) (subst (λ xs. Reach whole (bs ++ xs) (Some (r, drop at t))) f.2 h))

@@ -9,11 +9,11 @@ use Rattle.ev_parse.proofs.OperandMoves.{FoundBy}
 use Rattle.ev_parse.proofs.literal_steps.after_finite.Goals as goal
 
 pub returns-then-not-is_mark-clause-holds : goal.returns-then-not-is_mark-clause-holds
-returns-then-not-is_mark-clause-holds c = λ whole bs cs r f p h le. let t = c.args.reader.now in let at = c.args.at in
+returns-then-not-is_mark-clause-holds c = λ whole bs cs r f p h le. let t = c.args.source.now.reader.now in let at = c.args.at in
     nothing_inside whole bs (stage_tail c.args.stage) (found_inside whole bs (stage_tail c.args.stage) (around_behind finite_word) r (drop at t) None (subst (λ xs. FoundBy whole bs xs r (drop at t)) f h) (λ n g. expect_no close_paren (drop at t) _ (sym c.is_mark.ensures.is ∙ c.if-not-is_mark.true)))
 
 pub returns-clause-holds : goal.returns-clause-holds
-returns-clause-holds c = λ whole bs cs r f p h le. let t = c.args.reader.now in let at = c.args.at in (
+returns-clause-holds c = λ whole bs cs r f p h le. let t = c.args.source.now.reader.now in let at = c.args.at in (
   around finite_word r,
   c.in_ok-piece.ensures r p,
   found_inside whole bs (stage_tail c.args.stage) (around_behind finite_word) r (drop at t) (Some (around finite_word r, drop (at + 1) t)) (subst (λ xs. FoundBy whole bs xs r (drop at t)) f h)

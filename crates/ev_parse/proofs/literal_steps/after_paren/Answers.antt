@@ -8,7 +8,7 @@ use Rattle.ev_parse.proofs.OperandMoves.{FoundBy}
 use Rattle.ev_parse.proofs.literal_steps.after_paren.Goals as goal
 
 pub returns-then-is_mark-clause-holds : goal.returns-then-is_mark-clause-holds
-returns-then-is_mark-clause-holds c = λ whole bs cs r f p h le. let t = c.args.reader.now in let at = c.args.at in (
+returns-then-is_mark-clause-holds c = λ whole bs cs r f p h le. let t = c.args.source.now.reader.now in let at = c.args.at in (
   r,
   p,
   found_inside whole bs (stage_tail c.args.stage) paren_behind r (drop at t) (Some (r, drop (at + 1) t)) (subst (λ xs. FoundBy whole bs xs r (drop at t)) f h) (λ n g. closes close_paren t at (λ rest. Some (r, rest)) (sym c.is_mark.ensures.is ∙ c.if-is_mark.true)),
@@ -16,5 +16,5 @@ returns-then-is_mark-clause-holds c = λ whole bs cs r f p h le. let t = c.args.
 )
 
 pub returns-clause-holds : goal.returns-clause-holds
-returns-clause-holds c = λ whole bs cs r f p h le. let t = c.args.reader.now in let at = c.args.at in
+returns-clause-holds c = λ whole bs cs r f p h le. let t = c.args.source.now.reader.now in let at = c.args.at in
     nothing_inside whole bs (stage_tail c.args.stage) (found_inside whole bs (stage_tail c.args.stage) paren_behind r (drop at t) None (subst (λ xs. FoundBy whole bs xs r (drop at t)) f h) (λ n g. expect_no close_paren (drop at t) _ (sym c.is_mark.ensures.is ∙ c.if-is_mark.false)))

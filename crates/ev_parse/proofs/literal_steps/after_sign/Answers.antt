@@ -23,7 +23,7 @@ once_ends m l a r n g ts (inr h) = go (is_among once_levels l) refl
     go false e = rw (e, not_eq l 0 (λ e. (let w = h.1 in omega arith)), no_chain) refl
 
 pub returns-then-level-eq4-clause-holds : goal.returns-then-level-eq4-clause-holds
-returns-then-level-eq4-clause-holds c = λ whole bs cs r f p h le. let t = c.args.reader.now in let at = c.args.at in let l = c.args.level in (
+returns-then-level-eq4-clause-holds c = λ whole bs cs r f p h le. let t = c.args.source.now.reader.now in let at = c.args.at in let l = c.args.level in (
   binary c.args.mark f.0 r,
   c.in_ok-piece.ensures f.0 r f.1 p,
   found_inside whole bs (between c.args.k l) (right_behind c.args.mark l f.0) r (drop at t) (Some (binary c.args.mark f.0 r, drop at t)) (subst (λ xs. FoundBy whole bs xs r (drop at t)) f.2 h)
@@ -32,7 +32,7 @@ returns-then-level-eq4-clause-holds c = λ whole bs cs r f p h le. let t = c.arg
 )
 
 pub returns-clause-holds : goal.returns-clause-holds
-returns-clause-holds c = λ whole bs cs r f p h le. let t = c.args.reader.now in let at = c.args.at in
+returns-clause-holds c = λ whole bs cs r f p h le. let t = c.args.source.now.reader.now in let at = c.args.at in
     let l = c.args.level in (
       binary c.args.mark f.0 r,
       c.in_ok-piece.ensures f.0 r f.1 p,

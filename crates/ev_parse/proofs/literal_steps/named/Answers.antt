@@ -7,8 +7,8 @@ use Rattle.ev_parse.proofs.literal_steps.named.Goals as goal
 
 pub returns-then-is_name-clause-holds : goal.returns-then-is_name-clause-holds
 returns-then-is_name-clause-holds c = λ whole bs r p h le.
-    (r, p, subst (Reach whole (bs ++ stage_tail c.args.stage)) (named_alone r (drop c.args.at c.args.reader.now) (sym (c.is_name.ensures c.args.limit r p) ∙ c.if-is_name.true)) h, le)
+    (r, p, subst (Reach whole (bs ++ stage_tail c.args.stage)) (named_alone r (drop c.args.at c.args.source.now.reader.now) (sym (c.is_name.ensures c.args.source.now.limit r p) ∙ c.if-is_name.true)) h, le)
 
 pub returns-else-is_name-clause-holds : goal.returns-else-is_name-clause-holds
 returns-else-is_name-clause-holds c = λ whole bs r p h le.
-    nothing_inside whole bs (stage_tail c.args.stage) (subst (Reach whole (bs ++ stage_tail c.args.stage)) (not_named r (drop c.args.at c.args.reader.now) (sym (c.is_name.ensures c.args.limit r p) ∙ c.if-is_name.false)) h)
+    nothing_inside whole bs (stage_tail c.args.stage) (subst (Reach whole (bs ++ stage_tail c.args.stage)) (not_named r (drop c.args.at c.args.source.now.reader.now) (sym (c.is_name.ensures c.args.source.now.limit r p) ∙ c.if-is_name.false)) h)

@@ -8,7 +8,7 @@ use Rattle.ev_parse.proofs.OperandMoves as moves
 use Rattle.ev_parse.proofs.operand_reader.operand_mark.Goals as goal
 
 pub returns-then-in_range-clause-holds : goal.returns-then-in_range-clause-holds
-returns-then-in_range-clause-holds c = λ whole bs r p h le. let t = c.args.reader.now in let at = c.args.at in let m = c.args.mark in let k = c.args.k in let l = c.operator_level-level.result in
+returns-then-in_range-clause-holds c = λ whole bs r p h le. let t = c.args.source.now.reader.now in let at = c.args.at in let m = c.args.mark in let k = c.args.k in let l = c.operator_level-level.result in
     let test = sym c.in_range.ensures ∙ c.if-in_range.true in
     let e = c.operator_level-level.ensures.is in (
       between k l ++ right_behind m l r ∷ [],
@@ -22,7 +22,7 @@ returns-then-in_range-clause-holds c = λ whole bs r p h le. let t = c.args.read
     )
 
 pub returns-then-mark-ne-OFTYPE_WORD-clause-holds : goal.returns-then-mark-ne-OFTYPE_WORD-clause-holds
-returns-then-mark-ne-OFTYPE_WORD-clause-holds c = λ whole bs r p h le. let t = c.args.reader.now in let at = c.args.at in let k = c.args.k in (
+returns-then-mark-ne-OFTYPE_WORD-clause-holds c = λ whole bs r p h le. let t = c.args.source.now.reader.now in let at = c.args.at in let k = c.args.k in (
   r,
   p,
   moves.other_mark whole bs c.args.mark c.args.j k r (drop at t) (drop (at + 1) t) c.requires.token
@@ -31,7 +31,7 @@ returns-then-mark-ne-OFTYPE_WORD-clause-holds c = λ whole bs r p h le. let t = 
 )
 
 pub returns-then-k-gt0-clause-holds : goal.returns-then-k-gt0-clause-holds
-returns-then-k-gt0-clause-holds c = λ whole bs r p h le. let t = c.args.reader.now in let at = c.args.at in let k = c.args.k in (
+returns-then-k-gt0-clause-holds c = λ whole bs r p h le. let t = c.args.source.now.reader.now in let at = c.args.at in let k = c.args.k in (
   r,
   p,
   moves.other_mark whole bs c.args.mark c.args.j k r (drop at t) (drop (at + 1) t) c.requires.token
@@ -40,7 +40,7 @@ returns-then-k-gt0-clause-holds c = λ whole bs r p h le. let t = c.args.reader.
 )
 
 pub returns-then-j-eq0-clause-holds : goal.returns-then-j-eq0-clause-holds
-returns-then-j-eq0-clause-holds c = λ whole bs r p h le. let t = c.args.reader.now in let at = c.args.at in let k = c.args.k in (
+returns-then-j-eq0-clause-holds c = λ whole bs r p h le. let t = c.args.source.now.reader.now in let at = c.args.at in let k = c.args.k in (
   r,
   p,
   moves.other_mark whole bs c.args.mark c.args.j k r (drop at t) (drop (at + 1) t) c.requires.token
@@ -49,7 +49,7 @@ returns-then-j-eq0-clause-holds c = λ whole bs r p h le. let t = c.args.reader.
 )
 
 pub returns-clause-holds : goal.returns-clause-holds
-returns-clause-holds c = λ whole bs r p h le. let t = c.args.reader.now in let at = c.args.at in
+returns-clause-holds c = λ whole bs r p h le. let t = c.args.source.now.reader.now in let at = c.args.at in
     let w = c.if-k-gt0.false in let z : c.args.k ≡ 0 = omega arith in
     let e = c.requires.token ∙ ap (λ m. mark m ∷ drop (at + 1) t) c.if-mark-ne-OFTYPE_WORD.false in
     c.typed.ensures.holds whole bs r p (moves.last_level whole bs c.args.j r (drop at t) (drop (at + 1) t) e (let f = c.if-j-eq0.false in positive c.args.j f)

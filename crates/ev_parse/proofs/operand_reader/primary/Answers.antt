@@ -7,7 +7,7 @@ use Rattle.ev_parse.proofs.OperandMoves as moves
 use Rattle.ev_parse.proofs.operand_reader.primary.Goals as goal
 
 pub returns-then-is_mark-clause-holds : goal.returns-then-is_mark-clause-holds
-returns-then-is_mark-clause-holds c = λ whole bs r p h le. let t = c.args.reader.now in let at = c.args.at in (
+returns-then-is_mark-clause-holds c = λ whole bs r p h le. let t = c.args.source.now.reader.now in let at = c.args.at in (
   inverse r,
   c.in_ok-piece.ensures r p,
   moves.inverted whole bs c.args.k r (drop at t) (drop (at + 1) t) (begins_at inverse_sign t at (sym c.is_mark.ensures.is ∙ c.if-is_mark.true)) h,
@@ -15,7 +15,7 @@ returns-then-is_mark-clause-holds c = λ whole bs r p h le. let t = c.args.reade
 )
 
 pub returns-then-is_mark-2-clause-holds : goal.returns-then-is_mark-2-clause-holds
-returns-then-is_mark-2-clause-holds c = λ whole bs r p h le. let t = c.args.reader.now in let at = c.args.at in (
+returns-then-is_mark-2-clause-holds c = λ whole bs r p h le. let t = c.args.source.now.reader.now in let at = c.args.at in (
   between c.args.k 9 ++ argument_behind r ∷ [],
   (r, p, refl),
   (
@@ -26,7 +26,7 @@ returns-then-is_mark-2-clause-holds c = λ whole bs r p h le. let t = c.args.rea
 )
 
 pub returns-then-is_mark-3-clause-holds : goal.returns-then-is_mark-3-clause-holds
-returns-then-is_mark-3-clause-holds c = λ whole bs r p h le. let t = c.args.reader.now in let at = c.args.at in (
+returns-then-is_mark-3-clause-holds c = λ whole bs r p h le. let t = c.args.source.now.reader.now in let at = c.args.at in (
   between c.args.k 9 ++ image_behind r ∷ [],
   (r, p, refl),
   (
@@ -37,5 +37,5 @@ returns-then-is_mark-3-clause-holds c = λ whole bs r p h le. let t = c.args.rea
 )
 
 pub returns-clause-holds : goal.returns-clause-holds
-returns-clause-holds c = λ whole bs r p h le. let t = c.args.reader.now in let at = c.args.at in
+returns-clause-holds c = λ whole bs r p h le. let t = c.args.source.now.reader.now in let at = c.args.at in
     (r, p, moves.no_post whole bs c.args.k r (drop at t) (sym c.is_mark.ensures.is ∙ c.if-is_mark.false) (sym c.is_mark-2.ensures.is ∙ c.if-is_mark-2.false) (sym c.is_mark-3.ensures.is ∙ c.if-is_mark-3.false) h, le)

@@ -1,5 +1,5 @@
 use Rattle.std.proofs.Common.{refl, sym, ◌∙◌}
-use Rattle.ev_theory_text.proofs.Listing.{not_begun, begun}
+use Rattle.ev_parse.proofs.Listing.{not_begun, begun}
 use Rattle.ev_theory_text.proofs.args.args_in_parens.Goals as goal
 
 pub returns-then-not-begins : goal.returns-then-not-begins

@@ -3,9 +3,9 @@ use Rattle.ev_syntax.specs.Tokens.{mark}
 use Rattle.ev_syntax.specs.Grammar.{Is, ◌then◌}
 use Rattle.ev_theory_text.specs.Elements.{ReadsArg}
 use Rattle.ev_theory_text.specs.Depths.{arg_deep}
-use Rattle.ev_theory_text.specs.inner.Taking.{EndsArgs}
-use Rattle.ev_theory_text.proofs.Takings.{left}
-use Rattle.ev_theory_text.proofs.Listing.{Listed}
+use Rattle.ev_theory_text.specs.inner.Following.{EndsArgs}
+use Rattle.ev_parse.proofs.Takings.{left}
+use Rattle.ev_parse.proofs.Listing.{Listed}
 use Rattle.ev_theory_text.proofs.args.further_args.Given as goal
 
 abbrev pub invariant-further : goal.invariant-further

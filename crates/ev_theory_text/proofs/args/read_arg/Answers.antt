@@ -1,7 +1,7 @@
 use Rattle.std.proofs.Common.{refl}
 use Rattle.ev_syntax.specs.Marks.{in_sign}
 use Rattle.ev_theory_text.specs.inner.Making.{arg}
-use Rattle.ev_theory_text.proofs.Takings.{took_then, mark_took, took_as}
+use Rattle.ev_parse.proofs.Takings.{took_then, mark_took, took_as}
 use Rattle.ev_theory_text.proofs.args.read_arg.Goals as goal
 
 pub returns : goal.returns

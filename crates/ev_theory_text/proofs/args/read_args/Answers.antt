@@ -1,7 +1,7 @@
 use Rattle.std.proofs.lemmas.Result.{IfOk-weaker}
 use Rattle.ev_syntax.specs.Marks.{comma}
 use Rattle.ev_syntax.specs.inner.TypeParser.{begins}
-use Rattle.ev_theory_text.proofs.Listing.{separated_took}
+use Rattle.ev_parse.proofs.Listing.{separated_took}
 use Rattle.ev_theory_text.proofs.Ending.{args_ties}
 use Rattle.ev_theory_text.proofs.args.read_args.Goals as goal
 

@@ -1,6 +1,6 @@
 use Rattle.std.proofs.Common.{refl, sym, ◌∙◌}
 use Rattle.std.proofs.lemmas.Result.{IfOk-weaker}
-use Rattle.ev_theory_text.proofs.Listing.{not_begun, begun_open}
+use Rattle.ev_parse.proofs.Listing.{not_begun, begun_open}
 use Rattle.ev_theory_text.proofs.args.read_vars.Goals as goal
 
 pub returns-then-not-begins : goal.returns-then-not-begins

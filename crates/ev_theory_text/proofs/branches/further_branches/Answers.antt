@@ -1,7 +1,7 @@
 use Rattle.std.proofs.Common.{◌≤◌, suc, arith, sym, ◌∙◌}
-use Rattle.ev_theory_text.specs.inner.Taking.{begins_branch}
-use Rattle.ev_theory_text.proofs.Takings.{left, took_strict}
-use Rattle.ev_theory_text.proofs.Listing.{listed_none, listed_one, listed_all}
+use Rattle.ev_theory_text.specs.inner.Following.{begins_branch}
+use Rattle.ev_parse.proofs.Takings.{left, took_strict}
+use Rattle.ev_parse.proofs.Listing.{listed_none, listed_one, listed_all}
 use Rattle.ev_theory_text.proofs.Ending.{branches_ties, branch_shrinks}
 use Rattle.ev_theory_text.proofs.branches.further_branches.Goals as goal
 

@@ -1,8 +1,8 @@
 use Rattle.ev_theory_text.specs.Elements.{ReadsBranch}
 use Rattle.ev_theory_text.specs.Depths.{branch_deep}
-use Rattle.ev_theory_text.specs.inner.Taking.{EndsBranches}
-use Rattle.ev_theory_text.proofs.Takings.{left}
-use Rattle.ev_theory_text.proofs.Listing.{Listed}
+use Rattle.ev_theory_text.specs.inner.Following.{EndsBranches}
+use Rattle.ev_parse.proofs.Takings.{left}
+use Rattle.ev_parse.proofs.Listing.{Listed}
 use Rattle.ev_theory_text.proofs.branches.further_branches.Given as goal
 
 abbrev pub invariant-further : goal.invariant-further

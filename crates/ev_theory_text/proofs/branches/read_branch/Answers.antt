@@ -1,8 +1,8 @@
 use Rattle.std.proofs.Common.{refl, subst, sym}
 use Rattle.ev_syntax.specs.Marks.{when_word, then_word}
-use Rattle.ev_theory_text.specs.inner.Taking.{EndsClause}
+use Rattle.ev_theory_text.specs.inner.Following.{EndsClause}
 use Rattle.ev_theory_text.specs.inner.Making.{branch}
-use Rattle.ev_theory_text.proofs.Takings.{took_then, mark_took, took_as}
+use Rattle.ev_parse.proofs.Takings.{took_then, mark_took, took_as}
 use Rattle.ev_theory_text.proofs.branches.read_branch.Goals as goal
 
 pub returns : goal.returns

@@ -1,6 +1,6 @@
 use Rattle.std.proofs.lemmas.Result.{IfOk-weaker}
-use Rattle.ev_theory_text.specs.inner.Taking.{begins_branch}
-use Rattle.ev_theory_text.proofs.Listing.{at_least_took}
+use Rattle.ev_theory_text.specs.inner.Following.{begins_branch}
+use Rattle.ev_parse.proofs.Listing.{at_least_took}
 use Rattle.ev_theory_text.proofs.Ending.{branches_ties}
 use Rattle.ev_theory_text.proofs.branches.read_branches.Goals as goal
 

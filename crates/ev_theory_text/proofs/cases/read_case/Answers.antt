@@ -1,10 +1,10 @@
 use Rattle.std.proofs.Common.{refl, subst, sym, ap}
 use Rattle.std.specs.Prelude.{◌||◌}
 use Rattle.ev_syntax.specs.Marks.{is_word}
-use Rattle.ev_theory_text.specs.inner.Taking.{NoParen}
-use Rattle.ev_theory_text.specs.Depths.{formula_deep}
+use Rattle.ev_theory_text.specs.inner.Following.{NoParen}
+use Rattle.ev_parse.specs.Depths.{formula_deep}
 use Rattle.ev_theory_text.specs.inner.Making.{case_of}
-use Rattle.ev_theory_text.proofs.Takings.{took_then, mark_took, took_as, never_any}
+use Rattle.ev_parse.proofs.Takings.{took_then, mark_took, took_as, never_any}
 use Rattle.ev_theory_text.proofs.cases.read_case.Goals as goal
 
 pub returns : goal.returns

@@ -1,8 +1,8 @@
 use Rattle.std.proofs.lemmas.Result.{IfOk-weaker}
 use Rattle.ev_syntax.specs.Marks.{case_word}
 use Rattle.ev_syntax.specs.inner.TypeParser.{begins}
-use Rattle.ev_theory_text.proofs.Takings.{mark_took}
-use Rattle.ev_theory_text.proofs.Listing.{at_least_took}
+use Rattle.ev_parse.proofs.Takings.{mark_took}
+use Rattle.ev_parse.proofs.Listing.{at_least_took}
 use Rattle.ev_theory_text.proofs.Ending.{cases_ties}
 use Rattle.ev_theory_text.proofs.cases.read_cases.Goals as goal
 

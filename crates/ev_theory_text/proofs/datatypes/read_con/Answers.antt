@@ -1,6 +1,6 @@
 use Rattle.std.proofs.Common.{refl}
 use Rattle.ev_theory_text.specs.inner.Making.{con}
-use Rattle.ev_theory_text.proofs.Takings.{took_then, took_as}
+use Rattle.ev_parse.proofs.Takings.{took_then, took_as}
 use Rattle.ev_theory_text.proofs.datatypes.read_con.Goals as goal
 
 pub returns : goal.returns

@@ -1,8 +1,9 @@
 use Rattle.std.proofs.Common.{refl}
 use Rattle.ev_syntax.specs.Marks.{constant_word, where_word}
-use Rattle.ev_theory_text.specs.inner.Taking.{EndsType, EndsClause}
+use Rattle.ev_theory_text.specs.inner.Following.{EndsClause}
+use Rattle.ev_parse.specs.inner.Taking.{EndsType}
 use Rattle.ev_theory_text.specs.inner.Making.{constant_form}
-use Rattle.ev_theory_text.proofs.Takings.{mark_took, took_then, took_ends}
+use Rattle.ev_parse.proofs.Takings.{mark_took, took_then, took_ends}
 use Rattle.ev_theory_text.proofs.Ending.{at_end, before_where}
 use Rattle.ev_theory_text.proofs.Words.{word_took, of_constant}
 use Rattle.ev_theory_text.proofs.form_reader.read_constant.Goals as goal

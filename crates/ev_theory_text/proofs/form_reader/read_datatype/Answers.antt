@@ -2,9 +2,9 @@ use Rattle.std.proofs.Common.{refl, subst, sym, ap}
 use Rattle.std.specs.Prelude.{◌||◌}
 use Rattle.ev_syntax.specs.Marks.{datatype_word, equal_sign}
 use Rattle.ev_theory_text.specs.Depths.{cons_deep}
-use Rattle.ev_theory_text.specs.inner.Taking.{NoParen, EndsCons}
+use Rattle.ev_theory_text.specs.inner.Following.{NoParen, EndsCons}
 use Rattle.ev_theory_text.specs.inner.Making.{datatype_form}
-use Rattle.ev_theory_text.proofs.Takings.{mark_took, took_then, took_ends, never_any}
+use Rattle.ev_parse.proofs.Takings.{mark_took, took_then, took_ends, never_any}
 use Rattle.ev_theory_text.proofs.Ending.{at_end}
 use Rattle.ev_theory_text.proofs.Words.{word_took, of_datatype}
 use Rattle.ev_theory_text.proofs.form_reader.read_datatype.Goals as goal

@@ -1,8 +1,9 @@
 use Rattle.std.proofs.Common.{refl, subst, sym}
 use Rattle.ev_syntax.specs.Marks.{inference_word, in_sign, infer_word}
-use Rattle.ev_theory_text.specs.inner.Taking.{EndsVars, EndsFormula, EndsGivens}
+use Rattle.ev_theory_text.specs.inner.Following.{EndsVars, EndsGivens}
+use Rattle.ev_parse.specs.inner.Taking.{EndsFormula}
 use Rattle.ev_theory_text.specs.inner.Making.{inference_form}
-use Rattle.ev_theory_text.proofs.Takings.{mark_took, took_then, took_ends}
+use Rattle.ev_parse.proofs.Takings.{mark_took, took_then, took_ends}
 use Rattle.ev_theory_text.proofs.Ending.{at_end}
 use Rattle.ev_theory_text.proofs.Words.{word_took, of_inference}
 use Rattle.ev_theory_text.proofs.form_reader.read_inference.Goals as goal

@@ -1,11 +1,11 @@
 use Rattle.std.proofs.Common.{refl}
 use Rattle.ev_syntax.specs.Marks.{operator_word, where_word}
 use Rattle.ev_syntax.specs.Grammar.{◌then◌}
-use Rattle.ev_theory_text.specs.Fronts.{Maybe}
+use Rattle.ev_parse.specs.Sequences.{Maybe}
 use Rattle.ev_theory_text.specs.Elements.{ReadsBody, Clause, head_sort}
-use Rattle.ev_theory_text.specs.inner.Taking.{EndsClause, EndsCases}
+use Rattle.ev_theory_text.specs.inner.Following.{EndsClause, EndsCases}
 use Rattle.ev_theory_text.specs.inner.Making.{operator_form}
-use Rattle.ev_theory_text.proofs.Takings.{mark_took, took_then, tagged_then, took_ends}
+use Rattle.ev_parse.proofs.Takings.{mark_took, took_then, tagged_then, took_ends}
 use Rattle.ev_theory_text.proofs.Ending.{at_end, before_body, before_condition}
 use Rattle.ev_theory_text.proofs.Words.{word_took, of_operator}
 use Rattle.ev_theory_text.proofs.form_reader.read_operator.Goals as goal

@@ -2,10 +2,12 @@ use Rattle.std.proofs.Common.{refl, subst, sym, ap}
 use Rattle.std.specs.Prelude.{◌||◌}
 use Rattle.std.specs.List.{list_any}
 use Rattle.ev_syntax.specs.Marks.{rewrite_word, in_sign, complete_word}
-use Rattle.ev_theory_text.specs.Depths.{args_deep, formula_deep, branch_deep}
-use Rattle.ev_theory_text.specs.inner.Taking.{NotBefore, EndsVars, EndsBranches}
+use Rattle.ev_parse.specs.Depths.{formula_deep}
+use Rattle.ev_theory_text.specs.Depths.{args_deep, branch_deep}
+use Rattle.ev_theory_text.specs.inner.Following.{EndsVars, EndsBranches}
+use Rattle.ev_parse.specs.inner.Taking.{NotBefore}
 use Rattle.ev_theory_text.specs.inner.Making.{rewrite_form}
-use Rattle.ev_theory_text.proofs.Takings.{mark_took, took_then, took_ends, or_false}
+use Rattle.ev_parse.proofs.Takings.{mark_took, took_then, took_ends, or_false}
 use Rattle.ev_theory_text.proofs.Ending.{at_end, before_complete, before_branches}
 use Rattle.ev_theory_text.proofs.Words.{word_took, of_rewrite}
 use Rattle.ev_theory_text.proofs.form_reader.read_rewrite.Goals as goal

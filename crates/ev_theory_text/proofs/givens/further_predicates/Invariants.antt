@@ -3,10 +3,10 @@ use Rattle.ev_syntax.specs.Tokens.{mark}
 use Rattle.ev_syntax.specs.Grammar.{Is, ◌then◌}
 use Rattle.ev_syntax.specs.declared.sorts.Sort.TheVariants.{Pred}
 use Rattle.ev_syntax.specs.Parses.{ReadsAs}
-use Rattle.ev_theory_text.specs.Depths.{formula_deep}
-use Rattle.ev_theory_text.specs.inner.Taking.{EndsGivens}
-use Rattle.ev_theory_text.proofs.Takings.{left}
-use Rattle.ev_theory_text.proofs.Listing.{Listed}
+use Rattle.ev_parse.specs.Depths.{formula_deep}
+use Rattle.ev_theory_text.specs.inner.Following.{EndsGivens}
+use Rattle.ev_parse.proofs.Takings.{left}
+use Rattle.ev_parse.proofs.Listing.{Listed}
 use Rattle.ev_theory_text.proofs.givens.further_predicates.Given as goal
 
 abbrev pub invariant-further : goal.invariant-further

@@ -1,9 +1,10 @@
 use Rattle.std.proofs.Common.{refl, subst, sym}
 use Rattle.ev_syntax.specs.Marks.{in_sign}
 use Rattle.ev_theory_text.specs.Elements.{ReadsHead, head_sort}
-use Rattle.ev_theory_text.specs.inner.Taking.{Tagged, NoParen}
+use Rattle.ev_theory_text.specs.inner.Following.{NoParen}
+use Rattle.ev_parse.specs.inner.Taking.{Tagged}
 use Rattle.ev_theory_text.specs.inner.Making.{head}
-use Rattle.ev_theory_text.proofs.Takings.{took_then, mark_took, took_as}
+use Rattle.ev_parse.proofs.Takings.{took_then, mark_took, took_as}
 use Rattle.ev_theory_text.proofs.HeadParts.{head_tagged}
 use Rattle.ev_theory_text.proofs.heads.read_head.Goals as goal
 

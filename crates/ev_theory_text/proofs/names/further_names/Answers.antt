@@ -1,8 +1,8 @@
 use Rattle.std.proofs.Common.{◌≤◌, suc, arith, sym, ◌∙◌}
 use Rattle.ev_syntax.specs.Marks.{comma}
 use Rattle.ev_syntax.specs.inner.TypeParser.{begins}
-use Rattle.ev_theory_text.proofs.Takings.{left, mark_falls, took_left, mark_took}
-use Rattle.ev_theory_text.proofs.Listing.{listed_none, listed_one, listed_all}
+use Rattle.ev_parse.proofs.Takings.{left, mark_falls, took_left, mark_took}
+use Rattle.ev_parse.proofs.Listing.{listed_none, listed_one, listed_all}
 use Rattle.ev_theory_text.proofs.Ending.{names_ties}
 use Rattle.ev_theory_text.proofs.names.further_names.Goals as goal
 

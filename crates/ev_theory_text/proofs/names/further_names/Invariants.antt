@@ -1,11 +1,10 @@
 use Rattle.ev_syntax.specs.Marks.{comma}
 use Rattle.ev_syntax.specs.Tokens.{mark}
 use Rattle.ev_syntax.specs.Grammar.{Is, ◌then◌}
-use Rattle.ev_theory_text.specs.Elements.{Word}
-use Rattle.ev_theory_text.specs.inner.Taking.{never}
-use Rattle.ev_theory_text.specs.inner.Taking.{NotBefore}
-use Rattle.ev_theory_text.proofs.Takings.{left}
-use Rattle.ev_theory_text.proofs.Listing.{Listed}
+use Rattle.ev_parse.specs.Sequences.{Word}
+use Rattle.ev_parse.specs.inner.Taking.{never, NotBefore}
+use Rattle.ev_parse.proofs.Takings.{left}
+use Rattle.ev_parse.proofs.Listing.{Listed}
 use Rattle.ev_theory_text.proofs.names.further_names.Given as goal
 
 abbrev pub invariant-further : goal.invariant-further

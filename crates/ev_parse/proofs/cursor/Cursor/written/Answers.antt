@@ -1,8 +1,8 @@
 use Rattle.std.proofs.Common.{subst, sym, None}
 use Rattle.ev_syntax.specs.inner.TypeFrames.{TypeAnswer}
-use Rattle.ev_theory_text.specs.Depths.{limit}
-use Rattle.ev_theory_text.proofs.PieceLaws.{type_took, no_type_took}
-use Rattle.ev_theory_text.proofs.cursor.Cursor.written.Goals as goal
+use Rattle.ev_parse.specs.Depths.{limit}
+use Rattle.ev_parse.proofs.PieceLaws.{type_took, no_type_took}
+use Rattle.ev_parse.proofs.cursor.Cursor.written.Goals as goal
 
 pub returns-in-Some-2 : goal.returns-in-Some-2
 returns-in-Some-2 c =

@@ -1,11 +1,9 @@
 -- What a reader takes from the front of the tokens that are left.
-use Rattle.std.specs.Prelude.{◌≡◌, ◌==◌, ℕ, ◌≤◌, Bool, true, false, ◌||◌, List, [], ◌∷◌, ◌++◌, length, Option, Some, None, if◌then◌else◌}
-use Rattle.ev_syntax.specs.Marks.{open_paren, product_sign, comma, bar, pred_word, for_word, case_word, when_word, then_word, given_word}
+use Rattle.std.specs.Prelude.{◌≡◌, ◌==◌, ℕ, ◌≤◌, Bool, true, false, List, [], ◌∷◌, ◌++◌, length, Option, Some, None, if◌then◌else◌}
+use Rattle.ev_syntax.specs.Marks.{open_paren, product_sign}
 use Rattle.ev_syntax.specs.Tokens.{Token, name, number, mark}
 use Rattle.ev_syntax.specs.Grammar.{Front}
 use Rattle.ev_syntax.specs.inner.TypeParser.{begins}
-use Rattle.ev_syntax.specs.declared.sorts.Sort.{Sort}
-use Rattle.ev_syntax.specs.declared.sorts.Sort.TheVariants.{Pred, Expr}
 use Rattle.ev_parse.specs.Items.{ends}
 
 -- the tokens that are left, or none once something that must stand there did not
@@ -19,10 +17,6 @@ next starts (Some ts) = starts ts
 
 abbrev pub next_is : ℕ → State → Bool
 next_is m s = next (begins m) s
-
--- a right side of a rewrite rule
-abbrev pub begins_branch : List Token → Bool
-begins_branch ts = begins when_word ts || begins then_word ts
 
 -- the state behind a mark that must come next
 abbrev pub behind : ℕ → List Token → State
@@ -71,10 +65,6 @@ abbrev pub Tagged : {A K : Type 0} → (A → K) → (A → Front) → State →
 Tagged tag reads None k = Unit {0}
 Tagged {A} tag reads (Some ts) k = (a : A) (rest : List Token) → reads a ts rest → tag a ≡ k
 
--- the sort of formulas behind a result that comes next
-abbrev pub sort_behind : State → Sort
-sort_behind s = if next_is pred_word s then Pred else Expr
-
 -- what may follow a part
 abbrev pub Anything : List Token → Type 0
 Anything ts = Unit {0}
@@ -88,33 +78,25 @@ AtEnd ts = ts ≡ []
 abbrev pub EndsType : List Token → Type 0
 EndsType ts = NotBefore product_sign ts × NotBefore open_paren ts
 
-abbrev pub EndsArgs : List Token → Type 0
-EndsArgs ts = EndsType ts × NotBefore comma ts
-
-abbrev pub EndsVars : List Token → Type 0
-EndsVars ts = EndsArgs ts × NotBefore for_word ts
-
-abbrev pub NoParen : List Token → Type 0
-NoParen ts = NotBefore open_paren ts
-
-abbrev pub EndsCons : List Token → Type 0
-EndsCons ts = NoParen ts × NotBefore bar ts
-
 abbrev pub EndsFormula : List Token → Type 0
 EndsFormula ts = ends ts ≡ true
 
-abbrev pub EndsClause : ℕ → List Token → Type 0
-EndsClause m ts = EndsFormula ts × NotBefore m ts
+-- whether a number stands first
+abbrev pub begins_number : List Token → Bool
+begins_number [] = false
+begins_number (name n ∷ ts) = false
+begins_number (number n ∷ ts) = true
+begins_number (mark k ∷ ts) = false
 
-abbrev pub EndsCases : List Token → Type 0
-EndsCases ts = EndsFormula ts × NotBefore case_word ts
-
-abbrev pub EndsBranches : List Token → Type 0
-EndsBranches ts = EndsFormula ts × (begins_branch ts ≡ false)
-
-abbrev pub EndsGivens : List Token → Type 0
-EndsGivens ts = EndsFormula ts × NotBefore comma ts × NotBefore given_word ts
+abbrev pub NoNumber : List Token → Type 0
+NoNumber ts = begins_number ts ≡ false
 
 -- parts without formulas and types
 abbrev pub never : {A : Type 0} → A → Bool
 never a = false
+
+-- two parts, if both are kept
+abbrev pub both : {A B : Type 0} → Option A → Option B → Option (A × B)
+both None b = None
+both (Some a) None = None
+both (Some a) (Some b) = Some (a, b)

@@ -6,10 +6,10 @@ use Rattle.std.proofs.lemmas.Bool.{eq-eqb}
 use Rattle.ev_syntax.specs.Tokens.{Token, mark}
 use Rattle.ev_syntax.specs.Grammar.{Front, Is, ◌then◌}
 use Rattle.ev_syntax.specs.inner.TypeParser.{begins}
-use Rattle.ev_theory_text.specs.Fronts.{Nothing, Repeated, Further, Separated, AtLeastOne, MaybeBegun}
-use Rattle.ev_theory_text.specs.inner.Taking.{State, next, next_is, behind_mark, kept, TakesFrom, Took, joined, single, TookMore}
-use Rattle.ev_theory_text.specs.inner.Making.{both}
-use Rattle.ev_theory_text.proofs.Takings.{snoc_kept, joined_assoc, joined_none, took_then, took_as, took_none, took_some, mark_took, took_end, took_ends, took_nothing}
+use Rattle.ev_parse.specs.Sequences.{Nothing, Repeated, Further, Separated, AtLeastOne, MaybeBegun}
+use Rattle.ev_parse.specs.inner.Taking.{State, next, next_is, behind_mark, kept, TakesFrom, Took, joined, single, TookMore}
+use Rattle.ev_parse.specs.inner.Taking.{both}
+use Rattle.ev_parse.proofs.Takings.{snoc_kept, joined_assoc, joined_none, took_then, took_as, took_none, took_some, mark_took, took_end, took_ends, took_nothing}
 
 -- some of the parts are read, and the others follow
 abbrev pub SoFarFrom : {A : Type 0} → (A → Front) → (List Token → Type 0) → (A → Bool) → State → Option (List A) → State → Type 0
@@ -47,7 +47,7 @@ none_yet r E d (Some ts) = ([], refl, omega arith, λ more rest h. h, λ all res
 pub first_of_all : {A : Type 0} {r : A → Front} {E : List Token → Type 0} {d : A → Bool} {s : State} → SoFar r E d s (Some []) s
 first_of_all {A} {r} {E} {d} {s} = record { says = none_yet r E d s }
 
-tied : {A : Type 0} (r : A → Front) (E Ei : List Token → Type 0) (starts : List Token → Bool) → Ties r E Ei starts → (items : List A) (us rest : List Token) → Repeated r items us rest → E rest → Ei us
+pub tied : {A : Type 0} (r : A → Front) (E Ei : List Token → Type 0) (starts : List Token → Bool) → Ties r E Ei starts → (items : List A) (us rest : List Token) → Repeated r items us rest → E rest → Ei us
 tied r E Ei starts ties [] us rest h e = subst Ei (sym h) (ties.after rest e)
 tied r E Ei starts ties (a ∷ items) us rest h e = ties.between a us h.0 h.1
 

@@ -1,7 +1,13 @@
--- Lists and optional parts at the front of tokens.
+-- Names, numbers, lists and optional parts at the front of tokens.
 use Rattle.std.specs.Prelude.{◌≡◌, ℕ, Bool, true, false, List, [], ◌∷◌, Option, Some, None}
-use Rattle.ev_syntax.specs.Tokens.{mark}
+use Rattle.ev_syntax.specs.Tokens.{name, number, mark}
 use Rattle.ev_syntax.specs.Grammar.{Front, Is, ◌then◌}
+
+abbrev pub Word : List ℕ → Front
+Word n = Is (name n)
+
+abbrev pub Number : ℕ → Front
+Number n = Is (number n)
 
 -- no token
 abbrev pub Nothing : Front

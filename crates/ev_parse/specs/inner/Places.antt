@@ -4,7 +4,7 @@ use Rattle.ev_syntax.specs.Tokens.{Token}
 use Rattle.ev_parse.specs.inner.Closings.{IsTable}
 use Rattle.ev_syntax.specs.declared.read_pieces.Piece.{Piece}
 use Rattle.ev_syntax.specs.declared.read_pieces.Piece.TheVariants.{Whole, Deep}
-use Rattle.ev_theory_text.specs.inner.Taking.{State}
+use Rattle.ev_parse.specs.inner.Taking.{State}
 
 -- from the place on
 abbrev pub from_place : List Token → Option ℕ → State

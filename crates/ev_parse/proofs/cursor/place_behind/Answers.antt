@@ -1,6 +1,6 @@
 use Rattle.std.proofs.Common.{sym, ◌∙◌}
-use Rattle.ev_theory_text.proofs.PieceLaws.{mark_behind}
-use Rattle.ev_theory_text.proofs.cursor.place_behind.Goals as goal
+use Rattle.ev_parse.proofs.PieceLaws.{mark_behind}
+use Rattle.ev_parse.proofs.cursor.place_behind.Goals as goal
 
 pub returns-then-is_mark-clause-is : goal.returns-then-is_mark-clause-is
 returns-then-is_mark-clause-is c =

@@ -1,15 +1,16 @@
-//! What is left of an element's tokens.
+//! The tokens that are left to read.
 ghost use Rattle.std.specs.Prelude.{◌≡◌, true, [], Option, Some, None, ◌↔◌, IsTrue, IfOk};
 ghost use Rattle.ev_syntax.specs.Grammar.{ReadsType};
 ghost use Rattle.ev_syntax.specs.Parses.{ReadsAs};
-ghost use Rattle.ev_theory_text.specs.Elements.{Word};
-ghost use Rattle.ev_theory_text.specs.Depths.{formula_deep, type_deep};
-ghost use Rattle.ev_theory_text.specs.inner.Taking.{next_is, behind_mark, Took, Anything, EndsType, EndsFormula, never};
-ghost use Rattle.ev_theory_text.specs.inner.Places.{from_place, IsWithin, whole};
+ghost use Rattle.ev_parse.specs.Sequences.{Word, Number};
+ghost use Rattle.ev_parse.specs.Depths.{formula_deep, type_deep};
+ghost use Rattle.ev_parse.specs.inner.Taking.{next, next_is, begins_number, behind_mark, Took, Anything, EndsType, EndsFormula, never};
+ghost use Rattle.ev_parse.specs.inner.Places.{from_place, IsWithin, whole};
 
-use ev_parse::{Piece, Raw, RawType, Reader, Sort, closings_of, read_item};
-use ev_syntax::TokenKind;
+use crate::closings::closings_of;
+use crate::items::read_item;
 use ev_syntax::type_reader::read_type;
+use ev_syntax::{Piece, Raw, RawType, Reader, Sort, TokenKind};
 use ev_terms::limits::NESTING_LIMIT;
 use ev_terms::{Name, NoMemory};
 use std::alloc::Global;
@@ -39,7 +40,7 @@ fn whole<T: Drop>(piece: Piece<T>) -> Option<T>
     }
 }
 
-/// The tokens of an element that are left to read. Once something that must come next does not, nothing is left.
+/// The tokens that are left to read. Once something that must come next does not, nothing is left.
 #[derive(Drop)]
 pub struct Cursor<'a> {
     reader: &'a Reader<'a>,
@@ -49,11 +50,11 @@ pub struct Cursor<'a> {
 }
 
 impl<'a> Model for Cursor<'a> {
-    ghost use Rattle.ev_theory_text.specs.inner.Taking.{State};
+    ghost use Rattle.ev_parse.specs.inner.Taking.{State};
 
     ghost Value = { State };
 
-    ghost use Rattle.ev_theory_text.specs.inner.Places.{from_place, IsAt};
+    ghost use Rattle.ev_parse.specs.inner.Places.{from_place, IsAt};
 
     ghost view = { λ c. from_place c.reader.now c.at };
 
@@ -90,6 +91,16 @@ impl<'a> Cursor<'a> {
         }
     }
 
+    /// Whether a number comes next.
+    pub fn begins_number(&self) -> bool
+        ensures { result ≡ next begins_number self.now }
+    {
+        match self.at {
+            Some(at) => matches!(self.reader.kind(at), Some(TokenKind::Number(_))),
+            None => false,
+        }
+    }
+
     /// Gives up: nothing is left.
     pub fn refuse(&mut self)
         ensures { self.new ≡ None }
@@ -120,6 +131,23 @@ impl<'a> Cursor<'a> {
             _ => {
                 self.at = None;
                 Ok(None)
+            }
+        }
+    }
+
+    /// The number that must come next is read.
+    pub fn number(&mut self) -> Option<u128>
+        ensures { Took Number Anything never self.old result self.new }
+    {
+        let at = self.at?;
+        match self.reader.kind(at) {
+            Some(TokenKind::Number(number)) => {
+                self.at = Some(at + 1);
+                Some(number)
+            }
+            _ => {
+                self.at = None;
+                None
             }
         }
     }

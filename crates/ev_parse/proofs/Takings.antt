@@ -6,9 +6,9 @@ use Rattle.std.proofs.lemmas.List.Folds.{list_any-append}
 use Rattle.std.proofs.lemmas.Bool.{eqb-true, eq-eqb}
 use Rattle.ev_syntax.specs.Tokens.{Token, name, number, mark}
 use Rattle.ev_syntax.specs.Grammar.{Front, Is, ◌then◌}
-use Rattle.ev_theory_text.specs.Fronts.{Nothing}
-use Rattle.ev_theory_text.specs.inner.Taking.{State, next, next_is, behind, behind_mark, kept, Takes, TakesFrom, Took, joined, single, Tagged, never}
-use Rattle.ev_theory_text.specs.inner.Making.{both}
+use Rattle.ev_parse.specs.Sequences.{Nothing}
+use Rattle.ev_parse.specs.inner.Taking.{State, next, next_is, behind, behind_mark, kept, Takes, TakesFrom, Took, joined, single, Tagged, never}
+use Rattle.ev_parse.specs.inner.Taking.{both}
 
 -- what is kept
 pub both_kept : {A B : Type 0} (da : A → Bool) (db : B → Bool) (a : A) (b : B) (v : Option A) (w : Option B) → v ≡ kept da a → w ≡ kept db b

@@ -1,12 +1,12 @@
 //! Lists that are read.
 ghost use Rattle.std.specs.Prelude.{◌≡◌, IfOk};
-ghost use Rattle.ev_theory_text.specs.inner.Taking.{joined, single};
+ghost use Rattle.ev_parse.specs.inner.Taking.{joined, single};
 
 use ev_terms::{ListOf, NoMemory};
 use std::alloc::Global;
 
 /// A list of one item, if that is kept.
-pub(crate) fn one<T: Drop>(alloc: Global, item: Option<T>) -> Result<Option<ListOf<T>>, NoMemory>
+pub fn one<T: Drop>(alloc: Global, item: Option<T>) -> Result<Option<ListOf<T>>, NoMemory>
     ensures { IfOk result (λ v. v ≡ single item) }
 {
     let Some(item) = item else {
@@ -18,7 +18,7 @@ pub(crate) fn one<T: Drop>(alloc: Global, item: Option<T>) -> Result<Option<List
 }
 
 /// Items with one more, if all of them are kept.
-pub(crate) fn with<T: Drop>(
+pub fn with<T: Drop>(
     alloc: Global,
     items: Option<ListOf<T>>,
     item: Option<T>,

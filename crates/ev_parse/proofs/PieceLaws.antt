@@ -24,10 +24,10 @@ use Rattle.ev_syntax.proofs.Frame.{Takes}
 use Rattle.ev_syntax.proofs.OneTree.{StopsAs, same_front, as_frame}
 use Rattle.ev_syntax.proofs.RunLaws.{run_front, front_run}
 use Rattle.ev_parse.specs.Items.{ends, ItemAnswer}
-use Rattle.ev_theory_text.specs.Depths.{limit, formula_deep, type_deep}
-use Rattle.ev_theory_text.specs.inner.Taking.{State, behind, behind_mark, kept, Took, EndsType, EndsFormula}
-use Rattle.ev_theory_text.specs.inner.Places.{from_place, IsWithin, whole}
-use Rattle.ev_theory_text.proofs.Takings.{behind_here}
+use Rattle.ev_parse.specs.Depths.{limit, formula_deep, type_deep}
+use Rattle.ev_parse.specs.inner.Taking.{State, behind, behind_mark, kept, Took, EndsType, EndsFormula}
+use Rattle.ev_parse.specs.inner.Places.{from_place, IsWithin, whole}
+use Rattle.ev_parse.proofs.Takings.{behind_here}
 
 -- places
 pub mark_behind : (m at : ℕ) (ts : List Token) (o : Option ℕ) → o ≡ Some at → begins m (drop at ts) ≡ true → Some (drop (at + 1) ts) ≡ behind_mark m (from_place ts o)
@@ -109,10 +109,6 @@ or_false : (a b : Bool) → (a || b) ≡ false → (a ≡ false) × (b ≡ false
 or_false true b h = cc
 or_false false b h = (refl, h)
 
-not_true : (a : Bool) → not a ≡ true → a ≡ false
-not_true true h = cc
-not_true false h = refl
-
 record Stopping (ts : List Token) : Type 0 where
   goes : goes_on ts ≡ false
   relates : is_relation ts ≡ false
@@ -138,7 +134,7 @@ no_sign m ts on h = go (begins m ts) refl
     go false e = e
     go true e = let is = begins_is m ts e in absurd (true≢false (sym (on is.0) ∙ ap goes_on (sym is.1) ∙ h))
 
-stops_as : (sort : Sort) (ts : List Token) → ends ts ≡ true → StopsAs sort ts
+pub stops_as : (sort : Sort) (ts : List Token) → ends ts ≡ true → StopsAs sort ts
 stops_as Pred ts h = let s = stopping ts h in (((s.goes, s.relates), s.conj, s.disj), s.implies, s.iff)
 stops_as Expr ts h = let s = stopping ts h in (((s.goes, s.relates), s.conj, s.disj), s.implies, s.iff)
 stops_as Either ts h = let s = stopping ts h in (((s.goes, s.relates), s.conj, s.disj), s.implies, s.iff)

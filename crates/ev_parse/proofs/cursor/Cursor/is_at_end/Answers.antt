@@ -1,7 +1,7 @@
 use Rattle.std.proofs.Common.{sym}
 use Rattle.std.proofs.lemmas.Bool.{eqb-true, eq-eqb}
-use Rattle.ev_theory_text.proofs.PieceLaws.{end_is}
-use Rattle.ev_theory_text.proofs.cursor.Cursor.is_at_end.Goals as goal
+use Rattle.ev_parse.proofs.PieceLaws.{end_is}
+use Rattle.ev_parse.proofs.cursor.Cursor.is_at_end.Goals as goal
 
 pub returns-in-Some : goal.returns-in-Some
 returns-in-Some c =
