@@ -11,3 +11,4 @@ pub mod TableRows
 pub mod ParamSteps
 pub mod OpenSteps
 pub mod TermSteps
+pub mod NestSteps

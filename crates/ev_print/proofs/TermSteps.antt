@@ -22,6 +22,7 @@ use Rattle.ev_print.specs.inner.OpenTypes.{open_type, closed_term, function_term
 use Rattle.ev_print.specs.declared.styles.Style.TheVariants.{Infix, Image, Application}
 use Rattle.ev_print.specs.inner.Lists.{after_commas}
 use Rattle.ev_print.proofs.TypeSteps.{list_gives}
+use Rattle.ev_print.proofs.NestSteps.{stays, deeper}
 use Rattle.ev_print.proofs.Rows.{is_prop, both, base_row}
 
 pub first_type-More : (a : Ty) (rest : Tys) → first_type (type_list (More a rest)) ≡ a
@@ -158,11 +159,13 @@ two_pieces env k (x ∷ y ∷ us) t u e f h =
 
 pub ruleset leaves = (var_here, lit_here, some_form, some_types, inner_depth)
 
+pub ruleset nesting = (stays, deeper)
+
 pub ruleset operands = (operand_plain, operand_parens, function_plain, function_parens)
 
-pub ruleset children = (depth_at)
+pub ruleset children = (depth_at, stays, deeper)
 
-pub ruleset rests = (depth_at, drop_at, drop_all)
+pub ruleset rests = (depth_at, drop_at, drop_all, stays)
 
 -- too few children
 pub infix_few : (env : Env) (k m : ℕ) (ts : List Term) → length ts < 2 → [] ≡ written (Infix m) 0 [] (pieces env k (terms ts))

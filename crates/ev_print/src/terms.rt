@@ -1,5 +1,5 @@
 //! The canonical texts of terms.
-ghost use Rattle.std.specs.Prelude.{◌≡◌, ◌++◌, ◌+◌, [], IfOk, OnOk};
+ghost use Rattle.std.specs.Prelude.{◌≡◌, ◌++◌, ◌+◌, ◌-◌, [], IfOk, OnOk};
 ghost use Rattle.ev_terms.specs.Types.{type_list};
 ghost use Rattle.ev_terms.specs.Term.{node, terms};
 ghost use Rattle.ev_terms.specs.Symbols.{binds};
@@ -7,6 +7,7 @@ ghost use Rattle.ev_typing.specs.Env.{profile};
 ghost use Rattle.ev_print.specs.declared.styles.Style.TheVariants.{Infix, Not, Minus, Inverse, Around, Quantifier, SetFormer, Image, Application};
 ghost use Rattle.ev_print.specs.Styles.{spelled};
 ghost use Rattle.ev_print.specs.Canon.{in_parens, with_commas, called_text, operand_text, function_text, texts, variable_text, first_type, bound_text, whole_text, written, written_symbol, piece, pieces, canon};
+ghost use Rattle.ev_print.specs.inner.Nesting.{IsNested, under};
 ghost use Rattle.ev_print.specs.inner.Lists.{after_commas};
 ghost use Rattle.ev_print.specs.inner.OpenTypes.{closed_term, function_term, type_word_text};
 
@@ -15,7 +16,7 @@ use crate::buffer::{append, append_number};
 use crate::styles::{Style, base_style, is_closed};
 use crate::type_texts::{push_enclosed, push_param, push_type};
 use ev_syntax::all_spellings;
-use ev_terms::{Bytes, Name, NoMemory, Sym, Tree, Ty, Tys, binds};
+use ev_terms::{Bytes, Name, NoMemory, Sym, Tree, Ty, Tys};
 use ev_typing::Env;
 use std::alloc::Global;
 
@@ -45,6 +46,13 @@ fn push_variable(alloc: Global, text: &mut Vec<u8>, position: u64) -> Result<(),
 {
     append(text, b"v")?;
     append_number(alloc, text, u128::from(position))
+}
+
+/// The number of variables outside the variable `i` of n.
+fn position(n: u64, i: u32) -> u64
+    ensures { result ≡ n - (i + 1) }
+{
+    n.saturating_sub(u64::from(i) + 1)
 }
 
 #[tactic(auto, using(crate::proofs::TermSteps::firsts))]
@@ -122,10 +130,11 @@ fn push_term(
     n: u64,
     tree: &Tree,
 ) -> Result<(), NoMemory>
+    requires { IsNested n text.old.items }
     ensures { OnOk result (text.new.items ≡ text.old.items ++ (piece env.now n tree.now).text) }
 {
     if let Some(i) = tree.var() {
-        return push_variable(alloc, text, n.saturating_sub(u64::from(i) + 1));
+        return push_variable(alloc, text, position(n, i));
     }
     if let Some(k) = tree.lit() {
         return append_number(alloc, text, k);
@@ -141,6 +150,7 @@ fn push_term(
 
 /// A symbol over its children, and its type where it is annotated.
 #[cycle(push_term)]
+#[tactic(auto, using(crate::proofs::TermSteps::nesting))]
 fn push_node(
     alloc: Global,
     text: &mut Vec<u8>,
@@ -150,6 +160,7 @@ fn push_node(
     types: &Tys,
     children: &[Tree],
 ) -> Result<(), NoMemory>
+    requires { IsNested n text.old.items }
     ensures { OnOk result (text.new.items ≡ text.old.items ++ (piece env.now n (node sym.now types.now (terms children.now))).text) }
 {
     match annotation(alloc, env, sym, types)? {
@@ -165,6 +176,7 @@ fn push_node(
 }
 
 #[cycle(push_term)]
+#[tactic(auto, using(crate::proofs::TermSteps::nesting))]
 fn push_symbol(
     alloc: Global,
     text: &mut Vec<u8>,
@@ -174,50 +186,43 @@ fn push_symbol(
     types: &Tys,
     children: &[Tree],
 ) -> Result<(), NoMemory>
+    requires { IsNested n text.old.items }
     ensures { OnOk result (text.new.items ≡ text.old.items ++ written_symbol sym.now n (type_list types.now) (pieces env.now (n + binds sym.now) (terms children.now))) }
 {
-    // so many variables, one bound in the other, fit no memory
-    let Some(inner) = n.checked_add(u64::from(binds(sym))) else {
-        return Err(NoMemory);
-    };
     match sym {
-        Sym::Base(row) => {
-            let style = base_style(*row);
-            push_base(alloc, text, env, style, n, inner, types, children)
-        }
-        Sym::User(name) => push_call(alloc, text, env, inner, name, children),
+        Sym::Base(row) => { push_base(alloc, text, env, base_style(*row), n, types, children) }
+        Sym::User(name) => push_call(alloc, text, env, n, name, children),
     }
 }
 
-/// A base symbol over its children, which stand under `inner` variables.
+/// A base symbol over its children.
 #[cycle(push_term)]
+#[tactic(auto, using(crate::proofs::TermSteps::nesting))]
 fn push_base(
     alloc: Global,
     text: &mut Vec<u8>,
     env: &Env,
     style: Style,
     n: u64,
-    inner: u64,
     types: &Tys,
     children: &[Tree],
 ) -> Result<(), NoMemory>
-    ensures { OnOk result (text.new.items ≡ text.old.items ++ written style n (type_list types.now) (pieces env.now inner (terms children.now))) }
+    requires { IsNested n text.old.items }
+    ensures { OnOk result (text.new.items ≡ text.old.items ++ written style n (type_list types.now) (pieces env.now (under style n) (terms children.now))) }
 {
     match style {
         Style::Word(mark) => push_mark(text, mark),
         Style::Braces => append(text, b"{}"),
         Style::Whole => push_whole(alloc, text, types),
-        Style::Infix(mark) => push_infix(alloc, text, env, mark, inner, children),
-        Style::Not => push_not(alloc, text, env, inner, children),
-        Style::Minus => push_minus(alloc, text, env, inner, children),
-        Style::Inverse => push_inverse(alloc, text, env, inner, children),
-        Style::Around(mark) => push_around(alloc, text, env, mark, inner, children),
-        Style::Quantifier(mark) => {
-            push_quantifier(alloc, text, env, mark, n, inner, types, children)
-        }
-        Style::SetFormer => push_set(alloc, text, env, n, inner, types, children),
-        Style::Image => push_image(alloc, text, env, inner, children),
-        Style::Application => push_application(alloc, text, env, inner, children),
+        Style::Infix(mark) => push_infix(alloc, text, env, mark, n, children),
+        Style::Not => push_not(alloc, text, env, n, children),
+        Style::Minus => push_minus(alloc, text, env, n, children),
+        Style::Inverse => push_inverse(alloc, text, env, n, children),
+        Style::Around(mark) => push_around(alloc, text, env, mark, n, children),
+        Style::Quantifier(mark) => { push_quantifier(alloc, text, env, mark, n, types, children) }
+        Style::SetFormer => push_set(alloc, text, env, n, types, children),
+        Style::Image => push_image(alloc, text, env, n, children),
+        Style::Application => push_application(alloc, text, env, n, children),
     }
 }
 
@@ -231,6 +236,7 @@ fn push_operand(
     n: u64,
     tree: &Tree,
 ) -> Result<(), NoMemory>
+    requires { IsNested n text.old.items }
     ensures { OnOk result (text.new.items ≡ text.old.items ++ operand_text (piece env.now n tree.now)) }
 {
     if is_operand(tree) {
@@ -240,6 +246,7 @@ fn push_operand(
 }
 
 #[cycle(push_term)]
+#[tactic(auto, using(crate::proofs::TermSteps::nesting))]
 fn push_in_parens(
     alloc: Global,
     text: &mut Vec<u8>,
@@ -247,6 +254,7 @@ fn push_in_parens(
     n: u64,
     tree: &Tree,
 ) -> Result<(), NoMemory>
+    requires { IsNested n text.old.items }
     ensures { OnOk result (text.new.items ≡ text.old.items ++ in_parens (piece env.now n tree.now).text) }
 {
     append(text, b"(")?;
@@ -261,18 +269,19 @@ fn push_infix(
     text: &mut Vec<u8>,
     env: &Env,
     mark: u16,
-    inner: u64,
+    n: u64,
     children: &[Tree],
 ) -> Result<(), NoMemory>
-    ensures { OnOk result (text.new.items ≡ text.old.items ++ written (Infix mark) 0 [] (pieces env.now inner (terms children.now))) }
+    requires { IsNested n text.old.items }
+    ensures { OnOk result (text.new.items ≡ text.old.items ++ written (Infix mark) 0 [] (pieces env.now n (terms children.now))) }
 {
     match children {
         [left, right, ..] => {
-            push_operand(alloc, text, env, inner, left)?;
+            push_operand(alloc, text, env, n, left)?;
             append(text, b" ")?;
             push_mark(text, mark)?;
             append(text, b" ")?;
-            push_operand(alloc, text, env, inner, right)
+            push_operand(alloc, text, env, n, right)
         }
         _ => Ok(()),
     }
@@ -284,15 +293,16 @@ fn push_not(
     alloc: Global,
     text: &mut Vec<u8>,
     env: &Env,
-    inner: u64,
+    n: u64,
     children: &[Tree],
 ) -> Result<(), NoMemory>
-    ensures { OnOk result (text.new.items ≡ text.old.items ++ written Not 0 [] (pieces env.now inner (terms children.now))) }
+    requires { IsNested n text.old.items }
+    ensures { OnOk result (text.new.items ≡ text.old.items ++ written Not 0 [] (pieces env.now n (terms children.now))) }
 {
     match children {
         [child, ..] => {
             append(text, b"not ")?;
-            push_operand(alloc, text, env, inner, child)
+            push_operand(alloc, text, env, n, child)
         }
         _ => Ok(()),
     }
@@ -304,15 +314,16 @@ fn push_minus(
     alloc: Global,
     text: &mut Vec<u8>,
     env: &Env,
-    inner: u64,
+    n: u64,
     children: &[Tree],
 ) -> Result<(), NoMemory>
-    ensures { OnOk result (text.new.items ≡ text.old.items ++ written Minus 0 [] (pieces env.now inner (terms children.now))) }
+    requires { IsNested n text.old.items }
+    ensures { OnOk result (text.new.items ≡ text.old.items ++ written Minus 0 [] (pieces env.now n (terms children.now))) }
 {
     match children {
         [child, ..] => {
             append(text, b"-")?;
-            push_operand(alloc, text, env, inner, child)
+            push_operand(alloc, text, env, n, child)
         }
         _ => Ok(()),
     }
@@ -324,14 +335,15 @@ fn push_inverse(
     alloc: Global,
     text: &mut Vec<u8>,
     env: &Env,
-    inner: u64,
+    n: u64,
     children: &[Tree],
 ) -> Result<(), NoMemory>
-    ensures { OnOk result (text.new.items ≡ text.old.items ++ written Inverse 0 [] (pieces env.now inner (terms children.now))) }
+    requires { IsNested n text.old.items }
+    ensures { OnOk result (text.new.items ≡ text.old.items ++ written Inverse 0 [] (pieces env.now n (terms children.now))) }
 {
     match children {
         [child, ..] => {
-            push_operand(alloc, text, env, inner, child)?;
+            push_operand(alloc, text, env, n, child)?;
             append(text, b"~")
         }
         _ => Ok(()),
@@ -345,15 +357,16 @@ fn push_around(
     text: &mut Vec<u8>,
     env: &Env,
     mark: u16,
-    inner: u64,
+    n: u64,
     children: &[Tree],
 ) -> Result<(), NoMemory>
-    ensures { OnOk result (text.new.items ≡ text.old.items ++ written (Around mark) 0 [] (pieces env.now inner (terms children.now))) }
+    requires { IsNested n text.old.items }
+    ensures { OnOk result (text.new.items ≡ text.old.items ++ written (Around mark) 0 [] (pieces env.now n (terms children.now))) }
 {
     match children {
         [child, ..] => {
             push_mark(text, mark)?;
-            push_in_parens(alloc, text, env, inner, child)
+            push_in_parens(alloc, text, env, n, child)
         }
         _ => Ok(()),
     }
@@ -367,14 +380,15 @@ fn push_quantifier(
     env: &Env,
     mark: u16,
     n: u64,
-    inner: u64,
     types: &Tys,
     children: &[Tree],
 ) -> Result<(), NoMemory>
-    ensures { OnOk result (text.new.items ≡ text.old.items ++ written (Quantifier mark) n (type_list types.now) (pieces env.now inner (terms children.now))) }
+    requires { IsNested n text.old.items }
+    ensures { OnOk result (text.new.items ≡ text.old.items ++ written (Quantifier mark) n (type_list types.now) (pieces env.now (n + 1) (terms children.now))) }
 {
     match children {
         [child, ..] => {
+            let inner = n + 1;
             push_mark(text, mark)?;
             push_bound(alloc, text, n, types)?;
             append(text, b". ")?;
@@ -391,14 +405,15 @@ fn push_set(
     text: &mut Vec<u8>,
     env: &Env,
     n: u64,
-    inner: u64,
     types: &Tys,
     children: &[Tree],
 ) -> Result<(), NoMemory>
-    ensures { OnOk result (text.new.items ≡ text.old.items ++ written SetFormer n (type_list types.now) (pieces env.now inner (terms children.now))) }
+    requires { IsNested n text.old.items }
+    ensures { OnOk result (text.new.items ≡ text.old.items ++ written SetFormer n (type_list types.now) (pieces env.now (n + 1) (terms children.now))) }
 {
     match children {
         [child, ..] => {
+            let inner = n + 1;
             append(text, b"{")?;
             push_bound(alloc, text, n, types)?;
             append(text, b" | ")?;
@@ -415,16 +430,17 @@ fn push_image(
     alloc: Global,
     text: &mut Vec<u8>,
     env: &Env,
-    inner: u64,
+    n: u64,
     children: &[Tree],
 ) -> Result<(), NoMemory>
-    ensures { OnOk result (text.new.items ≡ text.old.items ++ written Image 0 [] (pieces env.now inner (terms children.now))) }
+    requires { IsNested n text.old.items }
+    ensures { OnOk result (text.new.items ≡ text.old.items ++ written Image 0 [] (pieces env.now n (terms children.now))) }
 {
     match children {
         [relation, set, ..] => {
-            push_operand(alloc, text, env, inner, relation)?;
+            push_operand(alloc, text, env, n, relation)?;
             append(text, b"[")?;
-            push_term(alloc, text, env, inner, set)?;
+            push_term(alloc, text, env, n, set)?;
             append(text, b"]")
         }
         _ => Ok(()),
@@ -437,15 +453,16 @@ fn push_application(
     alloc: Global,
     text: &mut Vec<u8>,
     env: &Env,
-    inner: u64,
+    n: u64,
     children: &[Tree],
 ) -> Result<(), NoMemory>
-    ensures { OnOk result (text.new.items ≡ text.old.items ++ written Application 0 [] (pieces env.now inner (terms children.now))) }
+    requires { IsNested n text.old.items }
+    ensures { OnOk result (text.new.items ≡ text.old.items ++ written Application 0 [] (pieces env.now n (terms children.now))) }
 {
     match children {
         [function, argument, ..] => {
-            push_function(alloc, text, env, inner, function)?;
-            push_in_parens(alloc, text, env, inner, argument)
+            push_function(alloc, text, env, n, function)?;
+            push_in_parens(alloc, text, env, n, argument)
         }
         _ => Ok(()),
     }
@@ -461,6 +478,7 @@ fn push_function(
     n: u64,
     tree: &Tree,
 ) -> Result<(), NoMemory>
+    requires { IsNested n text.old.items }
     ensures { OnOk result (text.new.items ≡ text.old.items ++ function_text (piece env.now n tree.now)) }
 {
     if is_function(alloc, env, tree)? {
@@ -476,18 +494,19 @@ fn push_call(
     alloc: Global,
     text: &mut Vec<u8>,
     env: &Env,
-    inner: u64,
+    n: u64,
     name: &Name,
     children: &[Tree],
 ) -> Result<(), NoMemory>
-    ensures { OnOk result (text.new.items ≡ text.old.items ++ called_text name.now (texts (pieces env.now inner (terms children.now)))) }
+    requires { IsNested n text.old.items }
+    ensures { OnOk result (text.new.items ≡ text.old.items ++ called_text name.now (texts (pieces env.now n (terms children.now)))) }
 {
     append(text, name.as_slice())?;
     match children {
         [first, rest @ ..] => {
             append(text, b"(")?;
-            push_term(alloc, text, env, inner, first)?;
-            push_rest(alloc, text, env, inner, rest)?;
+            push_term(alloc, text, env, n, first)?;
+            push_rest(alloc, text, env, n, rest)?;
             append(text, b")")
         }
         _ => Ok(()),
@@ -501,14 +520,15 @@ fn push_rest(
     alloc: Global,
     text: &mut Vec<u8>,
     env: &Env,
-    inner: u64,
+    n: u64,
     children: &[Tree],
 ) -> Result<(), NoMemory>
-    ensures { OnOk result (text.new.items ≡ text.old.items ++ after_commas (texts (pieces env.now inner (terms children.now)))) }
+    requires { IsNested n text.old.items }
+    ensures { OnOk result (text.new.items ≡ text.old.items ++ after_commas (texts (pieces env.now n (terms children.now)))) }
 {
     for child in children {
         append(text, b", ")?;
-        push_term(alloc, text, env, inner, child)?;
+        push_term(alloc, text, env, n, child)?;
     }
     Ok(())
 }

@@ -3,6 +3,7 @@ use Rattle.ev_terms.specs.Term.{terms}
 use Rattle.ev_terms.specs.Measures.{depth, depths}
 use Rattle.ev_print.specs.Canon.{texts, pieces}
 use Rattle.ev_print.specs.inner.Lists.{after_commas}
+use Rattle.ev_print.specs.inner.Nesting.{IsNested}
 use Rattle.ev_print.proofs.terms.+push_term.Given as goal
 
 abbrev pub decreases-push_term : goal.decreases-push_term
@@ -60,6 +61,8 @@ abbrev pub decreases-push_rest : goal.decreases-push_rest
 decreases-push_rest l = 20 * depths (terms l.children.now) + 8
 
 abbrev pub invariant-push_rest-loop-child : goal.invariant-push_rest-loop-child
-invariant-push_rest-loop-child l =
-    l.text.items ++ after_commas (texts (pieces l.env l.inner (terms (drop l.child-index l.children))))
-    ≡ l.initial.text.items ++ after_commas (texts (pieces l.env l.inner (terms l.children)))
+invariant-push_rest-loop-child l = record {
+  nested : IsNested l.n l.text.items;
+  rest : l.text.items ++ after_commas (texts (pieces l.env l.n (terms (drop l.child-index l.children))))
+      ≡ l.initial.text.items ++ after_commas (texts (pieces l.env l.n (terms l.children)));
+}
