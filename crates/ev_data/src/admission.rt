@@ -94,12 +94,17 @@ fn has_data(name: &Name, ty: &Ty) -> bool
     }
 }
 
+/// The same along a list of types.
 #[cycle(has_data)]
 fn have_data(name: &Name, types: &Tys) -> bool
     ensures { result ≡ have_data name.now types.now }
 {
-    match types {
-        Tys::Empty => false,
-        Tys::More(a, rest) => has_data(name, a.get()) || have_data(name, rest.get()),
+    let mut left = types;
+    while let Tys::More(ty, rest) = left {
+        if has_data(name, ty.get()) {
+            return true;
+        }
+        left = rest.get();
     }
+    false
 }

@@ -2,7 +2,7 @@
 ghost use Rattle.std.specs.Prelude.{◌≡◌, ◌↔◌, ◌<◌, ◌≤◌, ◌+◌, ◌-◌, ◌^◌, length, Some, None, IsTrue, IsSome, IfOk, IfSome, IfNone};
 ghost use Rattle.ev_terms.specs.Types.{type_list};
 ghost use Rattle.ev_typing.specs.Env.{look_up, symbols, declaring, own_type};
-ghost use Rattle.ev_typing.specs.WellFormed.{inductive_data, case_context, spliced};
+ghost use Rattle.ev_typing.specs.WellFormed.{IsWellFormed, inductive_data, case_context, spliced};
 ghost use Rattle.ev_forms.specs.Forms.{call, vars_above};
 ghost use Rattle.ev_typing.specs.TypeLists.{own_types};
 ghost use Rattle.ev_data.specs.Closed.{destructor_row, distinctness_row, recursion_row, destructor_formula, distinctness_formula, recursion_formula, recursion_in, recursion_of, case_arguments, cases_by_name};
@@ -192,12 +192,12 @@ fn find_case<'a>(env: &'a Env, op: &Name, con: &Name) -> Option<Case<'a>>
 /// The same, where the entry declares the operator's name.
 #[tactic(auto, using(crate::proofs::Cases::operators))]
 fn case_in_entry<'a>(env: &'a Env, entry: &'a Entry, op: &Name, con: &Name) -> Option<Case<'a>>
-    requires { Some entry.now ≡ declaring env.now op.now }
+    requires well_formed { IsWellFormed env.now }
+    requires declares { Some entry.now ≡ declaring env.now op.now }
     ensures found { IfSome result (λ c. recursion_of env.now (look_up (symbols entry.now) op.now) con.now ≡ Some (recursion_formula c.signature.now c.place c.types.now c.con.now c.body.now)) }
     ensures small { IfSome result (λ c. (c.place < length (type_list c.signature.now.args)) × (length (type_list c.signature.now.args) < 2 ^ 30) × (length c.con.now.fields < 2 ^ 30)) }
     ensures none { IfNone result (recursion_of env.now (look_up (symbols entry.now) op.now) con.now ≡ None) }
 {
-    let _opened = env.count();
     match entry {
         Entry::Recursive(signature, _, place, bodies) => if signature.name == *op {
             case_of(env, signature, *place, bodies, con)
@@ -216,12 +216,12 @@ fn case_of<'a>(
     bodies: &'a Trees,
     con: &Name,
 ) -> Option<Case<'a>>
-    requires { length (type_list signature.now.args) < 2 ^ 30 }
+    requires well_formed { IsWellFormed env.now }
+    requires few_args { length (type_list signature.now.args) < 2 ^ 30 }
     ensures found { IfSome result (λ c. recursion_in signature.now place bodies.now con.now (inductive_data env.now signature.now place) ≡ Some (recursion_formula c.signature.now c.place c.types.now c.con.now c.body.now)) }
     ensures small { IfSome result (λ c. (c.place < length (type_list c.signature.now.args)) × (length (type_list c.signature.now.args) < 2 ^ 30) × (length c.con.now.fields < 2 ^ 30)) }
     ensures none { IfNone result (recursion_in signature.now place bodies.now con.now (inductive_data env.now signature.now place) ≡ None) }
 {
-    let _opened = env.count();
     match inductive_argument(env, signature, place) {
         Some((decl, types)) => match case_in(decl, bodies, con) {
             Some((con, body)) => Some(Case {

@@ -56,18 +56,19 @@ pub(crate) fn match_types(
 ) -> Result<bool, NoMemory>
     ensures { IfOk result (TypesTaken patterns.now list.now found.old found.new) }
 {
-    match patterns {
-        Tys::Empty => Ok(patterns.same(list)),
-        Tys::More(a, rest) => match list {
-            Tys::Empty => Ok(false),
-            Tys::More(b, others) => {
-                if !match_type(alloc, a.get(), b.get(), found)? {
-                    return Ok(false);
-                }
-                match_types(alloc, rest.get(), others.get(), found)
-            }
-        },
+    let mut left = patterns;
+    let mut others = list;
+    while let Tys::More(a, rest) = left {
+        let Tys::More(b, further) = others else {
+            return Ok(false);
+        };
+        if !match_type(alloc, a.get(), b.get(), found)? {
+            return Ok(false);
+        }
+        left = rest.get();
+        others = further.get();
     }
+    Ok(left.same(others))
 }
 
 fn match_param(alloc: Global, j: u32, ty: &Ty, found: &mut Found) -> Result<bool, NoMemory>

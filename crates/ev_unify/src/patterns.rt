@@ -16,12 +16,32 @@ pub enum Pat {
     Unknown(u128),
 }
 
-/// A list of patterns: empty, or a pattern before further ones.
+/// A list of patterns: empty, or a pattern before further ones. A copy shares everything.
 #[cycle(pat)]
-#[derive(Drop)]
 pub enum Pats {
     Empty,
     More(Shared<Pat>, Shared<Pats>),
+}
+
+/// A loop along the list, up to where it is shared, so that a long one does not run out of stack.
+impl Drop for Pats {
+    #[cycle(drop_patterns)]
+    fn drop(mut self) {
+        loop {
+            match self {
+                Pats::Empty => return,
+                Pats::More(pat, rest) => {
+                    if let Some(pat) = Shared::into_inner(pat) {
+                        drop(pat);
+                    }
+                    match Shared::into_inner(rest) {
+                        Some(list) => self = list,
+                        None => return,
+                    }
+                }
+            }
+        }
+    }
 }
 
 /// Two patterns that are to be one type.

@@ -4,8 +4,8 @@ use Rattle.ev_data.proofs.Lists.{some_weaker, none_weaker}
 use Rattle.ev_data.proofs.Cases.{few_args, entry_recursive, entry_other}
 use Rattle.ev_data.proofs.equations.case_in_entry.Goals as goal
 
-pub case_of-requires : goal.case_of-requires
-case_of-requires c = few_args c.args.env.now c.count-opened.ensures.well_formed c.args.op.now _ _ _ _ (ap (λ e. Some e) (sym c.in-Recursive.is) ∙ c.requires) c.if-eq.ensures
+pub case_of-requires-clause-few_args : goal.case_of-requires-clause-few_args
+case_of-requires-clause-few_args c = few_args c.args.env.now c.requires.well_formed c.args.op.now _ _ _ _ (ap (λ e. Some e) (sym c.in-Recursive.is) ∙ c.requires.declares) c.if-eq.ensures
 
 pub returns-then-eq-clause-found : goal.returns-then-eq-clause-found
 returns-then-eq-clause-found c =
