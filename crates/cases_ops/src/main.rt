@@ -4,6 +4,7 @@
 #![tactic(auto)]
 
 mod admission_cases;
+mod entry_cases;
 mod param_cases;
 mod reading;
 mod samples;
@@ -27,6 +28,9 @@ fn write_case(
         return Ok(());
     }
     if admission_cases::answer(alloc, out, env, case, rest)? {
+        return Ok(());
+    }
+    if entry_cases::answer(alloc, out, env, case, rest)? {
         return Ok(());
     }
     if param_cases::answer(alloc, out, case, rest)? {

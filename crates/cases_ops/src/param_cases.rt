@@ -134,7 +134,7 @@ fn read_definition(alloc: Global, kind: &str, fields: &[&str]) -> Result<Element
     }
 }
 
-fn read_element(alloc: Global, text: &str) -> Result<Element, Fault> {
+pub fn read_element(alloc: Global, text: &str) -> Result<Element, Fault> {
     let (kind, rest) = text.split_once(' ').ok_or(Fault::NoCase)?;
     match kind {
         "import" => Ok(Element::Import(name_of(alloc, rest)?)),

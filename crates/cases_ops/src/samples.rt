@@ -1,12 +1,14 @@
 //! The environment of the cases: `List`, and the direct operators `double`, `quad`, `swap` and `alleq`.
-ghost use Rattle.std.specs.Prelude.{◌≡◌, [], ◌∷◌, IfOk};
+ghost use Rattle.std.specs.Prelude.{◌≡◌, [], ◌∷◌, ◌++◌, IfOk, OnOk};
 ghost use Rattle.ev_terms.specs.declared.types.Tys.{Empty};
 ghost use Rattle.ev_terms.specs.Types.{prod};
 ghost use Rattle.ev_forms.specs.Forms.{call, two_types};
+ghost use Rattle.ev_ops.specs.Entries.{env_of};
 ghost use Rattle.cases_ops.specs.Samples.{double_body, double_entry, quad_body, quad_entry, swap_body, swap_entry, alleq_body, alleq_entry, only_lists, with_double, with_quad, with_swap};
 
 use cases_samples::samples::lists;
-use ev_forms::{Binder, Relation, make_bound, make_related};
+use ev_forms::{Binder, Relation, make_bound, make_related, make_truth};
+use ev_rules::{Element, Elements};
 use ev_terms::{Name, NoMemory, Shared, Sym, Tree, Trees, Ty, Tys, make_node, make_var};
 use ev_typing::{Entry, Env, Signature};
 use std::alloc::Global;
@@ -137,13 +139,46 @@ fn only_lists(alloc: Global) -> Result<Env, NoMemory>
     Ok(env)
 }
 
-fn with_double(alloc: Global) -> Result<Env, NoMemory>
+pub fn with_double(alloc: Global) -> Result<Env, NoMemory>
     ensures { IfOk result (λ env. env ≡ with_double) }
 {
     let mut env = only_lists(alloc)?;
     let entry = double(alloc)?;
     env.add(alloc, entry)?;
     Ok(env)
+}
+
+fn share(alloc: Global, elements: &mut Elements, element: Element) -> Result<(), NoMemory>
+    ensures { OnOk result (elements.new ≡ elements.old ++ element ∷ []) }
+{
+    elements.push(alloc, Shared::new(alloc, element)?)
+}
+
+/// Elements of a theory that make `List` and `double`: an import, the datatype, a theorem and the operator.
+pub fn some_elements(alloc: Global) -> Result<Elements, NoMemory>
+    ensures { IfOk result (λ es. env_of es ≡ with_double) }
+{
+    let mut elements = Elements::new(alloc);
+    share(
+        alloc,
+        &mut elements,
+        Element::Import(Name::from_slice(alloc, b"Base")?),
+    )?;
+    share(alloc, &mut elements, Element::Data(lists(alloc)?))?;
+    let truth = make_truth(alloc)?;
+    share(
+        alloc,
+        &mut elements,
+        Element::Theorem(Name::from_slice(alloc, b"t")?, truth),
+    )?;
+    let args = Tys::one(alloc, Ty::Int)?;
+    let head = signature(alloc, b"double", 0, args, Ty::Int)?;
+    share(
+        alloc,
+        &mut elements,
+        Element::Direct(head, None, double_body(alloc)?),
+    )?;
+    Ok(elements)
 }
 
 fn with_quad(alloc: Global) -> Result<Env, NoMemory>

@@ -59,7 +59,7 @@ take_end [] (suc i) h = refl
 take_end (x ∷ xs) zero h = absurd (omega arith)
 take_end (x ∷ xs) (suc i) h = ap (λ ys. x ∷ ys) (take_end xs i (omega arith))
 
-new_body : (e r : Env) (d : Entry) → IsWellFormed (e ++ d ∷ r) → IsNewBody (bodies_after [] e) d
+pub new_body : (e r : Env) (d : Entry) → IsWellFormed (e ++ d ∷ r) → IsNewBody (bodies_after [] e) d
 new_body e r (Data d) w = tt
 new_body e r (Constant sig c) w = tt
 new_body e r (Direct sig c body) w = not_yet e r sig c body w

@@ -11,3 +11,4 @@ pub mod OverWhole
 pub mod Kept
 pub mod Guarding
 pub mod Admitting
+pub mod Making

@@ -3,6 +3,7 @@ ghost use Rattle.std.specs.Prelude.{◌≡◌, ◌<◌, ◌+◌, ◌∷◌, [], 
 ghost use Rattle.std.specs.Option.{option_copied};
 ghost use Rattle.ev_terms.specs.Term.{node, terms};
 ghost use Rattle.ev_terms.specs.Substitution.{fill, instance};
+ghost use Rattle.ev_typing.specs.WellFormed.{IsWellFormed};
 ghost use Rattle.ev_ops.specs.Unfold.{body_of, bodies_after, unfold_by, unfolded_node};
 ghost use Rattle.ev_ops.specs.inner.Kept.{IsNewBody};
 
@@ -41,13 +42,20 @@ impl Model for Bodies {
 
 #[tactic(auto, using(crate::proofs::Kept::look_ups))]
 impl Bodies {
+    /// Those of the environment in which nothing is declared.
+    pub fn new(alloc: Global) -> Bodies
+        ensures { result ≡ [] }
+    {
+        Bodies {
+            by_name: IndexMap::new(alloc),
+        }
+    }
+
     /// Those of the environment. Each body is unfolded once, by those before it: linear in the bodies and in what they unfold to.
     pub fn of(alloc: Global, env: &Env) -> Result<Bodies, NoMemory>
         ensures { IfOk result (λ bodies. bodies ≡ bodies_after [] env.now) }
     {
-        let mut bodies = Bodies {
-            by_name: IndexMap::new(alloc),
-        };
+        let mut bodies = Bodies::new(alloc);
         for i in 0..env.count() {
             bodies.add_at(alloc, env, i)?;
         }
@@ -56,11 +64,11 @@ impl Bodies {
 
     /// The entry at the place, where those before it are there.
     fn add_at(&mut self, alloc: Global, env: &Env, i: usize) -> Result<(), NoMemory>
+        requires well_formed { IsWellFormed env.now }
         requires known { self.old ≡ bodies_after [] (take i env.now) }
         requires within { i < length env.now }
         ensures { OnOk result (self.new ≡ bodies_after [] (take (i + 1) env.now)) }
     {
-        let _opened = env.count();
         match env.entry(i) {
             Some(entry) => self.add(alloc, entry),
             None => unreachable!(),
@@ -68,7 +76,7 @@ impl Bodies {
     }
 
     /// One more entry, which has a body where it is a direct operator.
-    fn add(&mut self, alloc: Global, entry: &Entry) -> Result<(), NoMemory>
+    pub(crate) fn add(&mut self, alloc: Global, entry: &Entry) -> Result<(), NoMemory>
         requires { IsNewBody self.old entry.now }
         ensures { OnOk result (self.new ≡ bodies_after self.old (entry.now ∷ [])) }
     {

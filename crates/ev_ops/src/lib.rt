@@ -4,6 +4,7 @@
 
 pub mod admission;
 pub mod cases;
+pub mod entries;
 mod faults;
 mod guards;
 pub mod kept_bodies;
@@ -12,6 +13,7 @@ pub mod unfolding;
 
 pub use admission::{admit_direct, admit_recursive};
 pub use cases::{Case, Cases};
+pub use entries::{entry_by, entry_of, env_of};
 pub use faults::OpFault;
 pub use kept_bodies::Bodies;
 pub use unfold_laws::{
