@@ -1,0 +1,3 @@
+pub mod Quantifying
+pub mod Listing
+pub mod Sizes
