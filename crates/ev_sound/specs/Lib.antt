@@ -1,0 +1,4 @@
+pub mod Equations
+pub mod Laws
+pub mod Unfoldings
+pub mod Proofs
