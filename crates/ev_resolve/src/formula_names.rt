@@ -8,9 +8,8 @@ ghost use Rattle.ev_typing.specs.WellFormed.{IsWellFormed};
 ghost use Rattle.ev_resolve.specs.UsedNames.{is_formula_name};
 ghost use Rattle.ev_resolve.specs.Resolve.{known_of};
 
-use crate::signatures::types_of_symbol;
 use ev_terms::{Name, Names, NoMemory, Sym, TryCopy};
-use ev_typing::{DataDecl, Env};
+use ev_typing::{DataDecl, Env, types_of_symbol};
 use indexmap::IndexMap;
 use std::alloc::Global;
 use std::marker::Model;

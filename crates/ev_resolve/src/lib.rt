@@ -22,4 +22,5 @@ pub use resolving::resolve;
 pub use scope::{Scope, ScopeVariable};
 pub use signatures::{SymbolTypes, types_of_symbol};
 pub use taken::has_taken_binder;
-pub use used::has_unknown_name;
+pub use types::resolve_type;
+pub use used::{has_unknown_name, has_unknown_type};

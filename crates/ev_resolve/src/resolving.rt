@@ -231,15 +231,25 @@ fn operands(
 ) -> Result<BareTerms, NoMemory>
     ensures { IfOk result (λ bs. bares bs ≡ two_bares (swaps (option_map plain_of entry)) left right) }
 {
-    let swapped = match entry {
+    if is_swapped(entry) {
+        in_order(alloc, right, left)
+    } else {
+        in_order(alloc, left, right)
+    }
+}
+
+fn is_swapped(entry: Option<Marked>) -> bool
+    ensures { result ≡ swaps (option_map plain_of entry) }
+{
+    match entry {
         Some(entry) => entry.swapped,
         None => false,
-    };
-    let (first, second) = if swapped {
-        (right, left)
-    } else {
-        (left, right)
-    };
+    }
+}
+
+fn in_order(alloc: Global, first: Bare, second: Bare) -> Result<BareTerms, NoMemory>
+    ensures { IfOk result (λ bs. bares bs ≡ bare_more first (bare_more second bare_none)) }
+{
     let mut children = BareTerms::new(alloc);
     children.push(alloc, first)?;
     children.push(alloc, second)?;

@@ -58,10 +58,10 @@ fn push_name(alloc: Global, scope: &mut Scope, name: &Name) -> Result<(), NoMemo
     )
 }
 
-/// Whether a written type has a name that is no formula name.
+/// Whether a written type has a name that is no formula name. Linear in the type.
 #[cycle(types)]
 #[tactic(auto, using(crate::proofs::Using::types))]
-fn type_uses(names: &FormulaNames<'_>, ty: &RawType) -> bool
+pub fn has_unknown_type(names: &FormulaNames<'_>, ty: &RawType) -> bool
     ensures { result ≡ list_any (is_unknown names.now.1 names.now.0) (type_names ty.now) }
 {
     match ty.form() {
@@ -72,12 +72,12 @@ fn type_uses(names: &FormulaNames<'_>, ty: &RawType) -> bool
             }
             types_use(names, types.as_slice())
         }
-        RawTypeForm::Pow(a) => type_uses(names, a),
+        RawTypeForm::Pow(a) => has_unknown_type(names, a),
         RawTypeForm::Prod(a, b) => {
-            if type_uses(names, a) {
+            if has_unknown_type(names, a) {
                 return true;
             }
-            type_uses(names, b)
+            has_unknown_type(names, b)
         }
     }
 }
@@ -88,7 +88,7 @@ fn types_use(names: &FormulaNames<'_>, types: &[RawType]) -> bool
     ensures { result ≡ list_any (is_unknown names.now.1 names.now.0) (types_names (raw_types types.now)) }
 {
     for ty in types {
-        if type_uses(names, ty) {
+        if has_unknown_type(names, ty) {
             return true;
         }
     }
@@ -100,7 +100,7 @@ fn binder_uses(names: &FormulaNames<'_>, binder: &Binder) -> bool
     ensures { result ≡ list_any (is_unknown names.now.1 names.now.0) (written_names binder.now.type) }
 {
     match &binder.written {
-        Some(ty) => type_uses(names, ty),
+        Some(ty) => has_unknown_type(names, ty),
         None => false,
     }
 }
@@ -155,8 +155,8 @@ fn uses(
 {
     match raw.form() {
         FormulaForm::Word(_) | FormulaForm::Literal(_) | FormulaForm::Param(_) => Ok(false),
-        FormulaForm::TypeSet(ty) => Ok(type_uses(names, ty)),
-        FormulaForm::Written(ty) => Ok(type_uses(names, ty)),
+        FormulaForm::TypeSet(ty) => Ok(has_unknown_type(names, ty)),
+        FormulaForm::Written(ty) => Ok(has_unknown_type(names, ty)),
         FormulaForm::Call(name, es) => {
             if is_unknown_here(names, scope, name) {
                 return Ok(true);
@@ -171,7 +171,7 @@ fn uses(
             if uses(alloc, names, scope, e)? {
                 return Ok(true);
             }
-            Ok(type_uses(names, ty))
+            Ok(has_unknown_type(names, ty))
         }
         FormulaForm::Binary(_, e, f) => uses_either(alloc, names, scope, e, f),
         FormulaForm::Apply(e, f) => uses_either(alloc, names, scope, e, f),

@@ -136,7 +136,7 @@ look_up_before : {X : Type 0} (ps qs : List (Name × X)) (n : Name) → look_up 
 look_up_before [] qs n h = h
 look_up_before (p ∷ ps) qs n h = ap (cond (bytes_eq p.0 n) (Some p.1)) (look_up_before ps qs n h)
 
-any_later : (n : Name) (ms ns : List Name) → list_any (bytes_eq n) (ms ++ ns) ≡ false → (list_any (bytes_eq n) ms ≡ false) × (list_any (bytes_eq n) ns ≡ false)
+pub any_later : (n : Name) (ms ns : List Name) → list_any (bytes_eq n) (ms ++ ns) ≡ false → (list_any (bytes_eq n) ms ≡ false) × (list_any (bytes_eq n) ns ≡ false)
 any_later n [] ns h = (refl, h)
 any_later n (m ∷ ms) ns h = part (bytes_eq n m) h (any_later n ms ns)
   where

@@ -3,7 +3,9 @@ pub mod Laws
 pub mod Proper
 pub mod Names
 pub mod Entries
+pub mod PlaceLaws
 pub mod Signatures
+pub mod Signing
 pub mod Checks
 pub mod Keeps
 pub mod Wholes

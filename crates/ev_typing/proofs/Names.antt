@@ -1,9 +1,6 @@
 -- The names that an environment declares, and the entries that declare them.
-use Rattle.std.specs.Prelude.{◌≡◌, ◌||◌, ℕ, zero, suc, ◌+◌, ◌<◌, ◌≤◌, map, Bool as Boolean, true, false, cond, List, [], ◌∷◌, ◌++◌, Option, Some, None, length, slice_get, drop, flat_map, bytes_eq, option_map, if◌then◌else◌, refl}
-use Rattle.std.specs.Option.{option_and_then}
+use Rattle.std.specs.Prelude.{◌≡◌, ◌||◌, ℕ, zero, suc, ◌+◌, ◌<◌, ◌≤◌, map, Bool as Boolean, true, false, cond, List, [], ◌∷◌, ◌++◌, Some, None, length, drop, flat_map, bytes_eq, refl}
 use Rattle.std.specs.List.{AllByRecursion, IsDistinct, list_any, enumerate_from}
-use Rattle.std.specs.HashMap.{HashMap, get}
-use Rattle.std.specs.Map.{lookup}
 use Rattle.std.proofs.Common.{ap, sym, ◌∙◌, subst, append_assoc, true≢false, arith, ⊎_elim, get_or, add-one, drop-cons}
 use Rattle.std.proofs.lemmas.Bool.{cases_Bool}
 use Rattle.std.proofs.lemmas.Slice.Eq.{bytes_eq-Decides}
@@ -13,8 +10,8 @@ use Rattle.ev_typing.specs.declared.typing.Entry.TheVariants.{Data}
 use Rattle.ev_typing.specs.declared.typing.DataDecl.{DataDecl}
 use Rattle.ev_typing.specs.declared.typing.Con.{Con}
 use Rattle.ev_typing.specs.declared.typing.Var.{Var}
-use Rattle.ev_typing.specs.Env.{Env, Name, Symbol, DesOf, con_symbols, names, declares, declaring, number_of}
-use Rattle.ev_typing.specs.inner.Numbered.{IsNumbered, con_names, all_con_names}
+use Rattle.ev_typing.specs.Env.{Env, Name, Symbol, DesOf, con_symbols, names, declares, declaring}
+use Rattle.ev_typing.specs.inner.Places.{con_names, all_con_names}
 use Rattle.ev_typing.specs.WellFormed.{HasNewNames, IsGoodEntry, AreGoodAfter, IsWellFormed}
 
 pub same_name : (m n : Name) → bytes_eq m n ≡ true → m ≡ n
@@ -39,69 +36,6 @@ holds_of_one P (m ∷ ms) n h e =
     ⊎_elim (λ y. subst P (sym (same_name n m y)) h.0)
     (λ z. holds_of_one P ms n h.1 (sym (ap (λ b. b || list_any (bytes_eq n) ms) z) ∙ e))
     (cases_Bool (bytes_eq n m))
-
--- The entry of a name by its number.
-pub declaring_number : (env : Env) (n : Name) → declaring env n ≡ option_and_then (slice_get env) (number_of env n)
-declaring_number [] n = refl
-declaring_number (e ∷ es) n = by (declares n e) (declaring_number es n)
-  where
-    later : (o : Option ℕ) → option_and_then (slice_get es) o ≡ option_and_then (slice_get (e ∷ es)) (option_map suc o)
-    later None = refl
-    later (Some i) = refl
-
-    by : (b : Boolean) → declaring es n ≡ option_and_then (slice_get es) (number_of es n) →
-        cond b (Some e) (declaring es n) ≡ option_and_then (slice_get (e ∷ es)) (cond b (Some 0) (option_map suc (number_of es n)))
-    by true h = refl
-    by false h = h ∙ later (number_of es n)
-
--- one more entry
-pub number_found : (env : Env) (e : Entry) (n : Name) (i : ℕ) → number_of env n ≡ Some i → number_of (env ++ e ∷ []) n ≡ Some i
-number_found [] e n i h = cc
-number_found (d ∷ ds) e n i h = by (declares n d) (number_of ds n) i (number_found ds e n) h
-  where
-    by : (b : Boolean) (o : Option ℕ) (j : ℕ) → ((k : ℕ) → o ≡ Some k → number_of (ds ++ e ∷ []) n ≡ Some k) →
-        cond b (Some 0) (option_map suc o) ≡ Some j → cond b (Some 0) (option_map suc (number_of (ds ++ e ∷ []) n)) ≡ Some j
-    by true o j g p = p
-    by false None j g p = cc
-    by false (Some k) j g p = ap (option_map suc) (g k refl) ∙ p
-
-pub number_new : (env : Env) (e : Entry) (n : Name) → number_of env n ≡ None → number_of (env ++ e ∷ []) n ≡ (if declares n e then Some (length env) else None)
-number_new [] e n h = refl
-number_new (d ∷ ds) e n h = by (declares n d) (number_of ds n) (number_new ds e n) h
-  where
-    one_later : (b : Boolean) → option_map suc (if b then Some (length ds) else None) ≡ (if b then Some (length (d ∷ ds)) else None)
-    one_later true = refl
-    one_later false = refl
-
-    by : (b : Boolean) (o : Option ℕ) → (o ≡ None → number_of (ds ++ e ∷ []) n ≡ (if declares n e then Some (length ds) else None)) →
-        cond b (Some 0) (option_map suc o) ≡ None →
-        cond b (Some 0) (option_map suc (number_of (ds ++ e ∷ []) n)) ≡ (if declares n e then Some (length (d ∷ ds)) else None)
-    by true o g p = cc
-    by false (Some k) g p = cc
-    by false None g p = ap (option_map suc) (g refl) ∙ one_later (declares n e)
-
-pub number_none : (env : Env) (n : Name) → declaring env n ≡ None → number_of env n ≡ None
-number_none [] n h = refl
-number_none (e ∷ es) n h = by (declares n e) (number_none es n) h
-  where
-    by : (b : Boolean) → (declaring es n ≡ None → number_of es n ≡ None) → cond b (Some e) (declaring es n) ≡ None →
-        cond b (Some 0) (option_map suc (number_of es n)) ≡ None
-    by true g p = cc
-    by false g p = ap (option_map suc) (g p)
-
--- the map after the names of a new entry are put under its number
-pub numbered_with : {S : Type 0} (m m' : HashMap Name ℕ S) (env : Env) (e : Entry) → IsNumbered m env → HasNewNames env e →
-    ((n : Name) → get bytes_eq m' n ≡ (if list_any (bytes_eq n) (names e) then Some (length env) else get bytes_eq m n)) → IsNumbered m' (env ++ e ∷ [])
-numbered_with m m' env e h new put n =
-    put n ∙ by (list_any (bytes_eq n) (names e)) refl (number_of env n) refl
-  where
-    by : (b : Boolean) → b ≡ list_any (bytes_eq n) (names e) → (o : Option ℕ) → o ≡ number_of env n →
-        (if b then Some (length env) else get bytes_eq m n) ≡ number_of (env ++ e ∷ []) n
-    by true p o q =
-        let none = number_none env n (holds_of_one (λ k. declaring env k ≡ None) (names e) n new.new (sym p)) in
-        sym (number_new env e n none ∙ ap (λ b. if b then Some (length env) else None) (sym p))
-    by false p None q = h n ∙ sym q ∙ sym (number_new env e n (sym q) ∙ ap (λ b. if b then Some (length env) else None) (sym p))
-    by false p (Some i) q = h n ∙ sym q ∙ sym (number_found env e n i (sym q))
 
 -- A well-formed environment with a good entry is well formed.
 pub all_append : {X : Type 0} (P : X → Type 0) (xs ys : List X) → AllByRecursion P xs → AllByRecursion P ys → AllByRecursion P (xs ++ ys)
@@ -147,7 +81,7 @@ all_apart : (env : Env) (ns : List Name) → AllByRecursion (λ n. declaring env
 all_apart env [] h = tt
 all_apart env (n ∷ ns) h = (apart_declared env n h.0, all_apart env ns h.1)
 
-append_nil : {X : Type 0} (xs : List X) → xs ++ [] ≡ xs
+pub append_nil : {X : Type 0} (xs : List X) → xs ++ [] ≡ xs
 append_nil [] = refl
 append_nil (x ∷ xs) = ap (λ ys. x ∷ ys) (append_nil xs)
 
@@ -170,9 +104,6 @@ well_formed_with env e w new good =
 pub empty_well_formed : IsWellFormed []
 unfolding IsDistinct
 empty_well_formed = record { distinct = tt; entries = tt }
-
--- What the code of an environment needs.
-pub ruleset environments = (declaring_number, empty_well_formed)
 
 -- the names that are listed
 pub names_of_data : (d : DataDecl) → names (Data d) ≡ d.name ∷ all_con_names d.cons
@@ -203,44 +134,3 @@ drop_all (x ∷ xs) zero h = absurd (omega arith)
 drop_all (x ∷ xs) (suc i) h = drop_all xs i (omega arith)
 
 pub ruleset listed = (names_of_data, drop_at, drop_all, append_assoc)
-
--- a name at the end of those that are left
-pub any_last : (n m : Name) (ms : List Name) → list_any (bytes_eq n) (ms ++ m ∷ []) ≡ (list_any (bytes_eq n) ms || bytes_eq n m)
-any_last n m [] = by (bytes_eq n m)
-  where
-    by : (b : Boolean) → (b || false) ≡ (false || b)
-    by true = refl
-    by false = refl
-any_last n m (k ∷ ks) = by (bytes_eq n k) (any_last n m ks)
-  where
-    by : (b : Boolean) → list_any (bytes_eq n) (ks ++ m ∷ []) ≡ (list_any (bytes_eq n) ks || bytes_eq n m) →
-        (b || list_any (bytes_eq n) (ks ++ m ∷ [])) ≡ ((b || list_any (bytes_eq n) ks) || bytes_eq n m)
-    by true h = refl
-    by false h = h
-
-pub ruleset numbering = (any_last, apart_flip)
-
-same_flip : (m n : Name) → bytes_eq m n ≡ bytes_eq n m
-same_flip m n =
-    ⊎_elim (λ y. y ∙ sym (ap (bytes_eq n) (same_name m n y) ∙ name_same n)) (λ z. z ∙ sym (apart_flip m n z)) (cases_Bool (bytes_eq m n))
-
--- the last of the names is put under the number
-pub put_one : (number : ℕ) (n m : Name) (ms rest : List Name) (old new : Option ℕ) → ms ≡ rest ++ m ∷ [] → new ≡ cond (bytes_eq m n) (Some number) old →
-    (if list_any (bytes_eq n) rest then Some number else new) ≡ (if list_any (bytes_eq n) ms then Some number else old)
-put_one number n m ms rest old new e p =
-    by (list_any (bytes_eq n) rest) (p ∙ ap (λ b. cond b (Some number) old) (same_flip m n))
-    ∙ sym (ap (λ ns. if list_any (bytes_eq n) ns then Some number else old) e ∙ ap (λ b. if b then Some number else old) (any_last n m rest))
-  where
-    by : (b : Boolean) → new ≡ cond (bytes_eq n m) (Some number) old → (if b then Some number else new) ≡ (if (b || bytes_eq n m) then Some number else old)
-    by true h = refl
-    by false h = h
-
-pub numbered_entry : {S : Type 0} (m m1 m2 : HashMap Name ℕ S) (env : Env) (e : Entry) (ns : List Name) (number : ℕ) → IsNumbered m env → HasNewNames env e →
-    m1.entries ≡ m.entries → ns ≡ names e → number ≡ length env →
-    ((n : Name) → get bytes_eq m2 n ≡ (if list_any (bytes_eq n) ns then Some number else get bytes_eq m1 n)) → IsNumbered m2 (env ++ e ∷ [])
-numbered_entry m m1 m2 env e ns number h new same listed at put =
-    numbered_with m m2 env e h new (λ n.
-    put n
-    ∙ ap (λ ms. if list_any (bytes_eq n) ms then Some number else get bytes_eq m1 n) listed
-    ∙ ap (λ k. if list_any (bytes_eq n) (names e) then Some k else get bytes_eq m1 n) at
-    ∙ ap (λ es. if list_any (bytes_eq n) (names e) then Some (length env) else lookup (bytes_eq n) es) same)

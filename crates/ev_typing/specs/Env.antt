@@ -1,5 +1,5 @@
 -- An environment: the datatypes and symbols that are declared, in order.
-use Rattle.std.specs.Prelude.{ℕ, suc, Bool, List, [], ◌∷◌, ◌++◌, map, flat_map, find, Option, Some, None, bytes_eq, cond, option_map}
+use Rattle.std.specs.Prelude.{ℕ, Bool, List, [], ◌∷◌, ◌++◌, map, flat_map, find, Option, Some, None, bytes_eq, cond, option_map}
 use Rattle.std.specs.List.{enumerate_from, list_any}
 use Rattle.ev_terms.specs.declared.types.Ty.{Ty, Data as DataType}
 use Rattle.ev_terms.specs.declared.types.Sym.{Sym}
@@ -66,11 +66,6 @@ declares n e = list_any (bytes_eq n) (names e)
 -- the entry that declares the name
 abbrev pub declaring : Env → Name → Option Entry
 declaring env n = find (declares n) env
-
--- the number of that entry, from 0
-abbrev pub number_of : Env → Name → Option ℕ
-number_of [] n = None
-number_of (e ∷ es) n = cond (declares n e) (Some 0) (option_map suc (number_of es n))
 
 -- the symbol of a name
 abbrev pub find_symbol : Env → Name → Option Symbol

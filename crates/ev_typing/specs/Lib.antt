@@ -3,6 +3,7 @@ pub mod Sequents
 pub mod BaseSequents
 pub mod Profiles
 pub mod Env
+pub mod Told
 pub mod Typing
 pub mod Proper
 pub mod Occurs

@@ -1,17 +1,18 @@
-ghost use Rattle.std.specs.Prelude.{◌≡◌, ◌==◌, Some, None, map, length, find, bytes_eq, flat_map, option_map, if◌then◌else◌, IfOk};
-ghost use Rattle.std.specs.Option.{option_copied, option_and_then};
+ghost use Rattle.std.specs.Prelude.{◌≡◌, ◌==◌, map, length, option_map, IfOk};
+ghost use Rattle.std.specs.Option.{option_and_then};
 ghost use Rattle.ev_terms.specs.Types.{pow, prod, type_list};
 ghost use Rattle.ev_terms.specs.Substitution.{type_inst, type_at};
 ghost use Rattle.ev_typing.specs.declared.typing.Var.{Var};
 ghost use Rattle.ev_typing.specs.Table.{relation, form_type, children_types, row_profile};
-ghost use Rattle.ev_typing.specs.Env.{Symbol, ConOf, look_up, find_symbol, con_symbols, symbols, con_profile, des_profile, signature_profile, symbol_profile, own_type};
+ghost use Rattle.ev_typing.specs.Env.{find_symbol, con_profile, des_profile, signature_profile, symbol_profile, own_type};
 ghost use Rattle.ev_typing.specs.Profiles.{base_profile};
+ghost use Rattle.ev_typing.specs.Told.{declared_told};
 ghost use Rattle.ev_typing.specs.inner.Instances.{instance_at, at_types, instance_of};
 
-use crate::environment::Env;
+use crate::environment::{Declared, Env};
 use crate::table::{Children, Form, Row, base_symbols};
 use crate::type_forms::{pair_of, relation_of, set_of};
-use crate::typing::{Con, DataDecl, Entry, Signature, Var, field_of};
+use crate::typing::{Con, DataDecl, Signature, Var};
 use ev_terms::{ListOf, Name, NoMemory, Sym, TryCopy, Ty, Tys, instantiate_type};
 use std::alloc::Global;
 
@@ -51,8 +52,8 @@ fn base_at(alloc: Global, k: u16, types: &Tys) -> Result<Option<Instance>, NoMem
 fn user_at(alloc: Global, env: &Env, name: &Name, types: &Tys) -> Result<Option<Instance>, NoMemory>
     ensures { IfOk result (λ o. o ≡ option_and_then (at_types types.now) (option_map symbol_profile (find_symbol env.now name.now))) }
 {
-    match env.symbol(name) {
-        Some(entry) => entry_at(alloc, entry, name, types),
+    match env.declared(name) {
+        Some(declared) => declared_at(alloc, declared, types),
         None => Ok(None),
     }
 }
@@ -164,36 +165,20 @@ fn row_at(alloc: Global, row: Row, types: &Tys) -> Result<Option<Instance>, NoMe
     Ok(Some(Instance { args, result }))
 }
 
-/// The signature of the symbol that the entry declares under the name, at types.
-#[tactic(auto, using(crate::proofs::Signatures::entries))]
-fn entry_at(
+/// The signature of what is declared, at types.
+fn declared_at(
     alloc: Global,
-    entry: &Entry,
-    name: &Name,
+    declared: Declared<'_>,
     types: &Tys,
 ) -> Result<Option<Instance>, NoMemory>
-    ensures { IfOk result (λ o. o ≡ option_and_then (at_types types.now) (option_map symbol_profile (look_up (symbols entry.now) name.now))) }
+    ensures { IfOk result (λ o. o ≡ at_types types.now (symbol_profile (declared_told declared.entry))) }
 {
-    match entry {
-        Entry::Data(decl) => data_at(alloc, decl, name, types),
-        Entry::Constant(signature, _)
-        | Entry::Direct(signature, _, _)
-        | Entry::Recursive(signature, _, _, _) => named_at(alloc, signature, name, types),
-    }
-}
-
-fn named_at(
-    alloc: Global,
-    signature: &Signature,
-    name: &Name,
-    types: &Tys,
-) -> Result<Option<Instance>, NoMemory>
-    ensures { IfOk result (λ o. o ≡ (if bytes_eq signature.now.name name.now then at_types types.now (signature_profile signature.now) else None)) }
-{
-    if signature.name == *name {
-        signature_at(alloc, signature, types)
-    } else {
-        Ok(None)
+    match declared {
+        Declared::Constructor(decl, con) => con_at(alloc, decl, con, types),
+        Declared::Destructor(decl, _, _, field) => des_at(alloc, decl, field, types),
+        Declared::Constant(signature, _)
+        | Declared::Direct(signature, _, _)
+        | Declared::Recursive(signature, _, _, _) => signature_at(alloc, signature, types),
     }
 }
 
@@ -225,44 +210,32 @@ pub(crate) fn types_at(alloc: Global, list: &Tys, types: &Tys) -> Result<ListOf<
     Ok(args)
 }
 
-#[tactic(auto, using(crate::proofs::Signatures::datatypes))]
-fn data_at(
-    alloc: Global,
-    decl: &DataDecl,
-    name: &Name,
-    types: &Tys,
-) -> Result<Option<Instance>, NoMemory>
-    ensures { IfOk result (λ o. o ≡ option_and_then (at_types types.now) (option_map symbol_profile (look_up (flat_map (con_symbols decl.now) decl.now.cons) name.now))) }
-{
-    if !has_count(types, decl.params) {
-        return Ok(None);
-    }
-    for con in decl.cons.as_slice() {
-        if let Some(instance) = con_at(alloc, decl, con, name, types)? {
-            return Ok(Some(instance));
-        }
-    }
-    Ok(None)
-}
-
-#[tactic(auto, using(crate::proofs::Signatures::datatypes))]
 fn con_at(
     alloc: Global,
     decl: &DataDecl,
     con: &Con,
-    name: &Name,
     types: &Tys,
 ) -> Result<Option<Instance>, NoMemory>
-    requires { length (type_list types.now) ≡ decl.now.params }
-    ensures { IfOk result (λ o. o ≡ option_map (λ (s : Symbol). instance_at types.now (symbol_profile s)) (look_up (con_symbols decl.now con.now) name.now)) }
+    ensures { IfOk result (λ o. o ≡ at_types types.now (con_profile decl.now con.now)) }
 {
-    if con.name == *name {
-        return Ok(Some(constructor_at(alloc, decl, con, types)?));
+    if !has_count(types, decl.params) {
+        return Ok(None);
     }
-    match field_of(con, name) {
-        Some(field) => Ok(Some(destructor_at(alloc, decl, field, types)?)),
-        None => Ok(None),
+    Ok(Some(constructor_at(alloc, decl, con, types)?))
+}
+
+fn des_at(
+    alloc: Global,
+    decl: &DataDecl,
+    field: &Var,
+    types: &Tys,
+) -> Result<Option<Instance>, NoMemory>
+    ensures { IfOk result (λ o. o ≡ at_types types.now (des_profile decl.now field.now)) }
+{
+    if !has_count(types, decl.params) {
+        return Ok(None);
     }
+    Ok(Some(destructor_at(alloc, decl, field, types)?))
 }
 
 #[tactic(auto, using(crate::proofs::Signatures::own))]

@@ -5,8 +5,8 @@ use Rattle.ev_resolve.specs.UsedNames.{types_names}
 use Rattle.ev_resolve.specs.inner.Unknown.{is_unknown}
 use Rattle.ev_resolve.proofs.used.+types.Given as goal
 
-abbrev pub decreases-type_uses : goal.decreases-type_uses
-decreases-type_uses l = 2 * height l.ty.now
+abbrev pub decreases-has_unknown_type : goal.decreases-has_unknown_type
+decreases-has_unknown_type l = 2 * height l.ty.now
 
 abbrev pub decreases-types_use : goal.decreases-types_use
 decreases-types_use l = 2 * types_height (raw_types l.types.now) + 1
