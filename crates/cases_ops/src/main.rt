@@ -1,9 +1,10 @@
 //! Cases of operators and of the type parameters of elements. Each line of the input is a case: the name of a call, and what it is
-//! asked of, over the environment of `samples`. Types and terms are in the notation of `cases_notation`. The program writes what the
+//! asked of, over the environment of `samples` and of the lines that declare operators. Types and terms are in the notation of `cases_notation`. The program writes what the
 //! libraries answer, a line for each case. Lines that begin with `--` it writes as they are.
 #![tactic(auto)]
 
 mod admission_cases;
+mod declaring;
 mod entry_cases;
 mod param_cases;
 mod reading;
@@ -39,14 +40,27 @@ fn write_case(
     Err(Fault::NoCase)
 }
 
-fn answer_of_line(alloc: Global, env: &Env, line: &str) -> Result<String, Fault> {
+fn write_line(
+    alloc: Global,
+    out: &mut Text,
+    env: &mut Env,
+    case: &str,
+    rest: &str,
+) -> Result<(), Fault> {
+    if case == "declare" {
+        return declaring::answer(alloc, out, env, rest);
+    }
+    write_case(alloc, out, env, case, rest)
+}
+
+fn answer_of_line(alloc: Global, env: &mut Env, line: &str) -> Result<String, Fault> {
     let (case, rest) = line.split_once(' ').ok_or(Fault::NoCase)?;
     let mut out = Text::new(alloc);
-    write_case(alloc, &mut out, env, case, rest)?;
+    write_line(alloc, &mut out, env, case, rest)?;
     out.finish()
 }
 
-fn write_answer(rt: &(impl Print + AllocGlobal), env: &Env, line: &str) -> io::Result<()> {
+fn write_answer(rt: &(impl Print + AllocGlobal), env: &mut Env, line: &str) -> io::Result<()> {
     match answer_of_line(rt.alloc(), env, line) {
         Ok(text) => rt.println(text),
         Err(Fault::NoCase) => rt.println("no case"),
@@ -55,7 +69,7 @@ fn write_answer(rt: &(impl Print + AllocGlobal), env: &Env, line: &str) -> io::R
 }
 
 fn main(rt: HostRuntime) -> io::Result<()> {
-    let Ok(env) = environment(rt.alloc()) else {
+    let Ok(mut env) = environment(rt.alloc()) else {
         return Err(io::Error::from(io::ErrorKind::OutOfMemory));
     };
     for line in rt.lines(rt.alloc()) {
@@ -63,7 +77,7 @@ fn main(rt: HostRuntime) -> io::Result<()> {
         if line.as_str().starts_with("--") {
             rt.println(line)?;
         } else {
-            write_answer(&rt, &env, line.as_str())?;
+            write_answer(&rt, &mut env, line.as_str())?;
         }
     }
     Ok(())

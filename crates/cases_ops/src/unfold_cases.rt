@@ -1,10 +1,11 @@
 //! `unfold TERM` and `unfold_by TERM`, the second by bodies that are made once: the unfolded term. `unfold_all TERMS`: the unfolded
-//! terms. `unfold_sequent TYPES TERMS |- TERM`: the unfolded sequent.
+//! terms. `unfold_sequent TYPES TERMS |- TERM`: the unfolded sequent. `unfolded_extent TERM` and `extent TERM`, the second by weights
+//! that are made once: size and depth of the unfolded term.
 use cases_notation::fault::Fault;
 use cases_notation::reading::{Items, read_items, read_tree, read_trees};
 use cases_notation::text::Text;
-use cases_notation::writing::{write_tree, write_trees, write_types};
-use ev_ops::{Bodies, unfold, unfold_sequent};
+use cases_notation::writing::{write_extent, write_tree, write_trees, write_types};
+use ev_ops::{Bodies, OperatorWeights, unfold, unfold_sequent, unfolded_extent};
 use ev_typing::{Env, Sequent};
 use std::alloc::Global;
 
@@ -49,6 +50,19 @@ fn unfold_whole(alloc: Global, out: &mut Text, env: &Env, text: &str) -> Result<
     Ok(())
 }
 
+fn extent(alloc: Global, out: &mut Text, env: &Env, text: &str) -> Result<(), Fault> {
+    let tree = read_tree(alloc, text)?;
+    write_extent(out, unfolded_extent(alloc, env, &tree)?);
+    Ok(())
+}
+
+fn extent_by(alloc: Global, out: &mut Text, env: &Env, text: &str) -> Result<(), Fault> {
+    let weights = OperatorWeights::of(alloc, env)?;
+    let tree = read_tree(alloc, text)?;
+    write_extent(out, weights.extent(alloc, &tree));
+    Ok(())
+}
+
 /// Whether the case is one of these, and then its answer.
 pub fn answer(
     alloc: Global,
@@ -61,6 +75,8 @@ pub fn answer(
         "unfold" => unfold_one(alloc, out, env, rest)?,
         "unfold_by" => unfold_by(alloc, out, env, rest)?,
         "unfold_all" => unfold_all(alloc, out, env, rest)?,
+        "unfolded_extent" => extent(alloc, out, env, rest)?,
+        "extent" => extent_by(alloc, out, env, rest)?,
         "unfold_sequent" => unfold_whole(alloc, out, env, rest)?,
         _ => return Ok(false),
     }

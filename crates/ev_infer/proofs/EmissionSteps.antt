@@ -20,11 +20,11 @@ use Rattle.ev_infer.specs.declared.sorts.Sort.{Sort}
 use Rattle.ev_infer.specs.declared.sorts.Sort.TheVariants.{Expression as expression}
 use Rattle.ev_infer.specs.declared.sorts.Walked.{Walked}
 use Rattle.ev_infer.specs.declared.sorts.NodePats.{NodePats}
-use Rattle.ev_resolve.specs.declared.signatures.SymbolTypes.{SymbolTypes}
+use Rattle.ev_typing.specs.declared.symbol_types.SymbolTypes.{SymbolTypes}
 use Rattle.ev_resolve.specs.Bare.{Bare, Bares, bare_var, bare_lit, bare_node, bare_of}
 use Rattle.ev_resolve.specs.inner.BareView.{bares, height, heights}
 use Rattle.ev_infer.specs.Equations.{pat_lit, Emitted, AllEmitted, NodeTypes, same_pattern, sort_of, meet, node_types, under, var_emitted, node_emitted, of_emitted, more_emitted, emit, emit_all}
-use Rattle.ev_resolve.specs.inner.Signing.{profile_told}
+use Rattle.ev_typing.specs.Told.{profile_told}
 use Rattle.ev_infer.specs.inner.Walks.{Walk, AllWalk, pats, types_told, walk_of, all_walk_of, walk_told, all_walk_told, when, met_walk, child_walk}
 use Rattle.ev_infer.proofs.PatternSteps.{test_is}
 

@@ -9,9 +9,9 @@ ghost use Rattle.ev_infer.specs.inner.Walks.{pats, walk_of, all_walk_of, walk_to
 
 use crate::patterns::{meet, node_types, same_pattern, sort_of};
 use crate::sorts::{Sort, Walked};
-use ev_resolve::{Bare, BareForm, types_of_symbol};
+use ev_resolve::{Bare, BareForm};
 use ev_terms::{NoMemory, Sym, TryCopy, Ty, binds};
-use ev_typing::{Env, is_proper};
+use ev_typing::{Env, is_proper, types_of_symbol};
 use ev_unify::{Pat, PatPairs};
 use std::alloc::Global;
 

@@ -9,11 +9,11 @@ ghost use Rattle.ev_infer.specs.inner.Filling.{measured_told, made_told, types_t
 
 use crate::bulks::{Bulk, NOTHING, above, beside, type_bulk, unknown_bulk};
 use crate::solving::unknown_type;
-use ev_resolve::{Bare, BareForm, types_of_symbol};
+use ev_resolve::{Bare, BareForm};
 use ev_terms::{
     NoMemory, Shared, Sym, Tree, Trees, TryCopy, Ty, Tys, make_lit, make_node, make_var,
 };
-use ev_typing::{Env, is_proper};
+use ev_typing::{Env, is_proper, types_of_symbol};
 use std::alloc::Global;
 
 /// How large a part is, and the first unknown that it does not use.

@@ -1,6 +1,6 @@
 -- Unfolding commutes with shift, substitution and type instance, in terms that give each direct operator as many types and arguments
 -- as its body wants.
-use Rattle.std.specs.Prelude.{◌≡◌, ◌+◌, ◌++◌, ◌≤◌, ◌<◌, ℕ, zero, suc, List, [], ◌∷◌, Option, Some, None, map, length, reverse, slice_get, refl}
+use Rattle.std.specs.Prelude.{◌≡◌, ◌+◌, ◌++◌, ◌<◌, ℕ, zero, suc, List, [], ◌∷◌, Option, Some, None, map, length, reverse, slice_get, refl}
 use Rattle.std.specs.Option.{unwrap_or}
 use Rattle.std.specs.List.{AllByRecursion}
 use Rattle.std.proofs.Common.{ap, sym, ◌∙◌, subst as transport, arith, add-zero}
@@ -20,11 +20,7 @@ use Rattle.ev_terms.proofs.ListLaws.{retype-retype}
 use Rattle.ev_terms.proofs.Sizes.{loose-retype}
 use Rattle.ev_typing.proofs.TypeInstances.{type_list-types_inst}
 use Rattle.ev_ops.specs.Unfold.{Bodies, body_of, unfolded_node, unfold_by, unfold_all_by}
-
--- a body for these types and arguments
-pub record FitsBody (B : Term) (As : Tys) (n : ℕ) : Type 0 where
-  pub arguments : loose B ≤ n
-  pub parameters : params B ≤ length (type_list As)
+pub use Rattle.ev_ops.specs.inner.Fit.{FitsBody, IsFit, AreFit}
 
 -- as many arguments as there are children
 abbrev count : Terms → ℕ
@@ -62,17 +58,6 @@ type_at_inst θ (A ∷ As) (suc i) h = later As i (omega arith)
     later (B ∷ Bs) (suc j) k = later Bs j (omega arith)
 
 module _ (bs : Bodies) where
-  abbrev mutual
-    -- each direct operator has as many types and arguments as its body wants
-    pub IsFit : Term → Type 0
-    IsFit (var i) = Unit {0}
-    IsFit (lit n) = Unit {0}
-    IsFit (node s As ts) = ((B : Term) → body_of bs s ≡ Some B → FitsBody B As (length (term_list ts))) × AreFit ts
-
-    pub AreFit : Terms → Type 0
-    AreFit nil = Unit {0}
-    AreFit (cons t ts) = IsFit t × AreFit ts
-
   unfold_count : (ts : Terms) → count (unfold_all_by bs ts) ≡ count ts
   unfold_count nil = refl
   unfold_count (cons t ts) = ap suc (unfold_count ts)
@@ -84,12 +69,12 @@ module _ (bs : Bodies) where
 
   -- shifts
   mutual
-    pub shift_fit : (t : Term) (f b : ℕ) → IsFit t → IsFit (shift t f b)
+    pub shift_fit : (t : Term) (f b : ℕ) → IsFit bs t → IsFit bs (shift t f b)
     shift_fit (var i) f b h = tt
     shift_fit (lit n) f b h = tt
     shift_fit (node s As ts) f b h = ((λ B e. transport (FitsBody B As) (sym (shifts_count ts (f + binds s) b)) (h.0 B e)), shifts_fit ts (f + binds s) b h.1)
 
-    shifts_fit : (ts : Terms) (f b : ℕ) → AreFit ts → AreFit (shifts ts f b)
+    shifts_fit : (ts : Terms) (f b : ℕ) → AreFit bs ts → AreFit bs (shifts ts f b)
     shifts_fit nil f b h = tt
     shifts_fit (cons t ts) f b h = (shift_fit t f b h.0, shifts_fit ts f b h.1)
 
@@ -104,20 +89,20 @@ module _ (bs : Bodies) where
       ∙ sym (shift-of_fill (instance B As) (term_list us) f b (let k = (h B refl).arguments in omega (arith, k, loose_instance B As)))
 
   mutual
-    pub unfold_shift : (t : Term) (f b : ℕ) → IsFit t → unfold_by bs (shift t f b) ≡ shift (unfold_by bs t) f b
+    pub unfold_shift : (t : Term) (f b : ℕ) → IsFit bs t → unfold_by bs (shift t f b) ≡ shift (unfold_by bs t) f b
     unfold_shift (var i) f b h = refl
     unfold_shift (lit n) f b h = refl
     unfold_shift (node s As ts) f b h =
         ap (unfolded_node (body_of bs s) s As) (unfold_shifts ts (f + binds s) b h.1)
         ∙ node_shift s As (unfold_all_by bs ts) f b (body_of bs s) (λ B e. transport (FitsBody B As) (sym (unfold_count ts)) (h.0 B e)) (no_binder s)
 
-    unfold_shifts : (ts : Terms) (f b : ℕ) → AreFit ts → unfold_all_by bs (shifts ts f b) ≡ shifts (unfold_all_by bs ts) f b
+    unfold_shifts : (ts : Terms) (f b : ℕ) → AreFit bs ts → unfold_all_by bs (shifts ts f b) ≡ shifts (unfold_all_by bs ts) f b
     unfold_shifts nil f b h = refl
     unfold_shifts (cons t ts) f b h = let p = unfold_shift t f b h.0 in let q = unfold_shifts ts f b h.1 in cc
 
   -- substitutions
   abbrev pub AllFit : (ℕ → Term) → Type 0
-  AllFit σ = (i : ℕ) → IsFit (σ i)
+  AllFit σ = (i : ℕ) → IsFit bs (σ i)
 
   abbrev unfolds : (ℕ → Term) → ℕ → Term
   unfolds σ i = unfold_by bs (σ i)
@@ -146,19 +131,19 @@ module _ (bs : Bodies) where
       ∙ sym (inst-of_fill σ (instance B As) (term_list us) (let k = (h B refl).arguments in omega (arith, k, loose_instance B As)))
 
   mutual
-    pub unfold_inst : (t : Term) (σ : ℕ → Term) → AllFit σ → IsFit t → unfold_by bs (inst σ t) ≡ inst (unfolds σ) (unfold_by bs t)
+    pub unfold_inst : (t : Term) (σ : ℕ → Term) → AllFit σ → IsFit bs t → unfold_by bs (inst σ t) ≡ inst (unfolds σ) (unfold_by bs t)
     unfold_inst (var i) σ g h = refl
     unfold_inst (lit n) σ g h = refl
     unfold_inst (node s As ts) σ g h =
         ap (unfolded_node (body_of bs s) s As) (unfold_insts ts (lifts (binds s) σ) (lifts_fit (binds s) σ g) h.1 ∙ ap (λ τ. insts τ (unfold_all_by bs ts)) (unfold_lifts (binds s) σ g))
         ∙ node_inst s As (unfold_all_by bs ts) (unfolds σ) (body_of bs s) (λ B e. transport (FitsBody B As) (sym (unfold_count ts)) (h.0 B e)) (no_binder s)
 
-    unfold_insts : (ts : Terms) (σ : ℕ → Term) → AllFit σ → AreFit ts → unfold_all_by bs (insts σ ts) ≡ insts (unfolds σ) (unfold_all_by bs ts)
+    unfold_insts : (ts : Terms) (σ : ℕ → Term) → AllFit σ → AreFit bs ts → unfold_all_by bs (insts σ ts) ≡ insts (unfolds σ) (unfold_all_by bs ts)
     unfold_insts nil σ g h = refl
     unfold_insts (cons t ts) σ g h = let p = unfold_inst t σ g h.0 in let q = unfold_insts ts σ g h.1 in cc
 
   -- terms in a list
-  pub entry_fit : (ts : List Term) → AllByRecursion IsFit ts → AllFit (entry ts)
+  pub entry_fit : (ts : List Term) → AllByRecursion (IsFit bs) ts → AllFit (entry ts)
   entry_fit [] h i = tt
   entry_fit (t ∷ ts) h zero = h.0
   entry_fit (t ∷ ts) h (suc i) = entry_fit ts h.1 i
@@ -168,31 +153,31 @@ module _ (bs : Bodies) where
   entry_unfolded (t ∷ ts) zero = refl
   entry_unfolded (t ∷ ts) (suc i) = entry_unfolded ts i
 
-  pub unfold_subst : (t : Term) (ts : List Term) → AllByRecursion IsFit ts → IsFit t → unfold_by bs (substitute t ts) ≡ substitute (unfold_by bs t) (map (unfold_by bs) ts)
+  pub unfold_subst : (t : Term) (ts : List Term) → AllByRecursion (IsFit bs) ts → IsFit bs t → unfold_by bs (substitute t ts) ≡ substitute (unfold_by bs t) (map (unfold_by bs) ts)
   unfold_subst t ts g h = unfold_inst t (entry ts) (entry_fit ts g) h ∙ ap (λ σ. inst σ (unfold_by bs t)) (fun_ext (entry_unfolded ts))
 
-  fit_reverse : (ts us : List Term) → AllByRecursion IsFit ts → AllByRecursion IsFit us → AllByRecursion IsFit (ts ++ us)
+  fit_reverse : (ts us : List Term) → AllByRecursion (IsFit bs) ts → AllByRecursion (IsFit bs) us → AllByRecursion (IsFit bs) (ts ++ us)
   fit_reverse [] us h k = k
   fit_reverse (t ∷ ts) us h k = (h.0, fit_reverse ts us h.1 k)
 
-  pub reverse_fit : (ts : List Term) → AllByRecursion IsFit ts → AllByRecursion IsFit (reverse ts)
+  pub reverse_fit : (ts : List Term) → AllByRecursion (IsFit bs) ts → AllByRecursion (IsFit bs) (reverse ts)
   reverse_fit [] h = tt
-  reverse_fit (t ∷ ts) h = transport (AllByRecursion IsFit) (sym (reverse-append (t ∷ []) ts)) (fit_reverse (reverse ts) (t ∷ []) (reverse_fit ts h.1) (h.0, tt))
+  reverse_fit (t ∷ ts) h = transport (AllByRecursion (IsFit bs)) (sym (reverse-append (t ∷ []) ts)) (fit_reverse (reverse ts) (t ∷ []) (reverse_fit ts h.1) (h.0, tt))
 
   map_append : (ts us : List Term) → map (unfold_by bs) (ts ++ us) ≡ map (unfold_by bs) ts ++ map (unfold_by bs) us
   map_append [] us = refl
   map_append (t ∷ ts) us = ap (λ vs. unfold_by bs t ∷ vs) (map_append ts us)
 
-  map_reverse : (ts : List Term) → map (unfold_by bs) (reverse ts) ≡ reverse (map (unfold_by bs) ts)
+  pub map_reverse : (ts : List Term) → map (unfold_by bs) (reverse ts) ≡ reverse (map (unfold_by bs) ts)
   map_reverse [] = refl
   map_reverse (t ∷ ts) =
       ap (map (unfold_by bs)) (reverse-append (t ∷ []) ts) ∙ map_append (reverse ts) (t ∷ []) ∙ ap (λ vs. vs ++ unfold_by bs t ∷ []) (map_reverse ts)
       ∙ sym (reverse-append (unfold_by bs t ∷ []) (map (unfold_by bs) ts))
 
-  pub unfold_fill : (t : Term) (ts : List Term) → AllByRecursion IsFit ts → IsFit t → unfold_by bs (fill t ts) ≡ fill (unfold_by bs t) (map (unfold_by bs) ts)
+  pub unfold_fill : (t : Term) (ts : List Term) → AllByRecursion (IsFit bs) ts → IsFit bs t → unfold_by bs (fill t ts) ≡ fill (unfold_by bs t) (map (unfold_by bs) ts)
   unfold_fill t ts g h = unfold_subst t (reverse ts) (reverse_fit ts g) h ∙ ap (substitute (unfold_by bs t)) (map_reverse ts)
 
-  pub list_fit : (ts : Terms) → AreFit ts → AllByRecursion IsFit (term_list ts)
+  pub list_fit : (ts : Terms) → AreFit bs ts → AllByRecursion (IsFit bs) (term_list ts)
   list_fit nil h = tt
   list_fit (cons t ts) h = (h.0, list_fit ts h.1)
 
@@ -220,23 +205,23 @@ module _ (bs : Bodies) where
   fits_retyped B As As' n m e f h = let a = h.arguments in let p = h.parameters in record { arguments = omega (arith, a, f); parameters = omega (arith, p, e) }
 
   mutual
-    pub retype_fit : (t : Term) (θ : ℕ → Ty) → IsFit t → IsFit (retype θ t)
+    pub retype_fit : (t : Term) (θ : ℕ → Ty) → IsFit bs t → IsFit bs (retype θ t)
     retype_fit (var i) θ h = tt
     retype_fit (lit n) θ h = tt
     retype_fit (node s As ts) θ h = ((λ B e. fits_retyped B As (types_inst θ As) (count ts) (count (retypes θ ts)) (types_count θ As) (retypes_count θ ts) (h.0 B e)), retypes_fit ts θ h.1)
 
-    retypes_fit : (ts : Terms) (θ : ℕ → Ty) → AreFit ts → AreFit (retypes θ ts)
+    retypes_fit : (ts : Terms) (θ : ℕ → Ty) → AreFit bs ts → AreFit bs (retypes θ ts)
     retypes_fit nil θ h = tt
     retypes_fit (cons t ts) θ h = (retype_fit t θ h.0, retypes_fit ts θ h.1)
 
   mutual
-    pub unfold_retype : (t : Term) (θ : ℕ → Ty) → IsFit t → unfold_by bs (retype θ t) ≡ retype θ (unfold_by bs t)
+    pub unfold_retype : (t : Term) (θ : ℕ → Ty) → IsFit bs t → unfold_by bs (retype θ t) ≡ retype θ (unfold_by bs t)
     unfold_retype (var i) θ h = refl
     unfold_retype (lit n) θ h = refl
     unfold_retype (node s As ts) θ h =
         ap (unfolded_node (body_of bs s) s (types_inst θ As)) (unfold_retypes ts θ h.1)
         ∙ node_retype s As (unfold_all_by bs ts) θ (body_of bs s) (λ B e. transport (FitsBody B As) (sym (unfold_count ts)) (h.0 B e))
 
-    unfold_retypes : (ts : Terms) (θ : ℕ → Ty) → AreFit ts → unfold_all_by bs (retypes θ ts) ≡ retypes θ (unfold_all_by bs ts)
+    unfold_retypes : (ts : Terms) (θ : ℕ → Ty) → AreFit bs ts → unfold_all_by bs (retypes θ ts) ≡ retypes θ (unfold_all_by bs ts)
     unfold_retypes nil θ h = refl
     unfold_retypes (cons t ts) θ h = let p = unfold_retype t θ h.0 in let q = unfold_retypes ts θ h.1 in cc

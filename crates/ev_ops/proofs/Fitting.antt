@@ -32,7 +32,8 @@ use Rattle.ev_ops.specs.Unfold.{Bodies, body_of, unfolded_node, unfold_by, unfol
 use Rattle.ev_ops.proofs.UnfoldEquation.{bodies_after-append}
 use Rattle.ev_ops.specs.UnfoldLaws.{IsTyped, UnfoldedOfShift, UnfoldedOfSubstitution, UnfoldedOfInstance}
 use Rattle.ev_ops.proofs.Basics.{append_nil, all_reverse, some_out, typed_loose, contains_more, contains_first}
-use Rattle.ev_ops.proofs.Commuting.{FitsBody, IsFit, AreFit, unfold_shift, unfold_subst, unfold_retype}
+use Rattle.ev_ops.specs.inner.Fit.{FitsBody, IsFit, AreFit}
+use Rattle.ev_ops.proofs.Commuting.{unfold_shift, unfold_subst, unfold_retype}
 
 -- Unfolding brings in no loose variable and no type parameter.
 entry_all : (P : Term → Type 0) (ts : List Term) (i : ℕ) → AllByRecursion P ts → i < length ts → P (entry ts i)
@@ -93,7 +94,7 @@ module _ (bs : Bodies) where
   no_binder (User n) B e = refl
 
   mutual
-    unfold_loose : (t : Term) → IsFit bs t → loose (unfold_by bs t) ≤ loose t
+    pub unfold_loose : (t : Term) → IsFit bs t → loose (unfold_by bs t) ≤ loose t
     unfold_loose (var i) h = omega arith
     unfold_loose (lit n) h = omega arith
     unfold_loose (node s As ts) h = node_loose s As ts (unfold_all_by bs ts) (body_of bs s) (λ B e. transport (FitsBody B As) (sym (unfolded_count ts)) (h.0 B e)) (no_binder s) (unfold_all_loose ts h.1)
@@ -103,7 +104,7 @@ module _ (bs : Bodies) where
     unfold_all_loose (cons t ts) h = let p = unfold_loose t h.0 in let q = unfold_all_loose ts h.1 in omega (arith, p, q)
 
   mutual
-    unfold_params : (t : Term) → IsFit bs t → params (unfold_by bs t) ≤ params t
+    pub unfold_params : (t : Term) → IsFit bs t → params (unfold_by bs t) ≤ params t
     unfold_params (var i) h = omega arith
     unfold_params (lit n) h = omega arith
     unfold_params (node s As ts) h = node_params s As ts (unfold_all_by bs ts) (body_of bs s) (λ B e. transport (FitsBody B As) (sym (unfolded_count ts)) (h.0 B e)) (unfold_all_params ts h.1)

@@ -29,7 +29,7 @@ turned m n =
     ⊎_elim (λ y. y ∙ sym (subst (λ k. bytes_eq m k ≡ true) (sym (same_name n m y)) (name_same m)))
     (λ z. z ∙ sym (apart_flip n m z)) (cases_Bool (bytes_eq n m))
 
-pub kept : (es : Bodies) (n : Name) → lookup (bytes_eq n) es ≡ look_up es n
+pub kept : {X : Type 0} (es : List (Name × X)) (n : Name) → lookup (bytes_eq n) es ≡ look_up es n
 kept [] n = refl
 kept (e ∷ es) n = ap (λ b. cond b (Some e.1) (lookup (bytes_eq n) es)) (turned e.0 n) ∙ ap (cond (bytes_eq e.0 n) (Some e.1)) (kept es n)
 

@@ -9,6 +9,9 @@ pub mod Basing
 pub mod BaseGood
 pub mod OverWhole
 pub mod Kept
+pub mod WeightLaws
+pub mod Weighing
+pub mod Weighed
 pub mod Guarding
 pub mod Admitting
 pub mod Making

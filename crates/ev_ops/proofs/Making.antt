@@ -1,11 +1,10 @@
 -- Environments of elements, one element after the other.
 use Rattle.std.specs.List.{IsDistinct}
 use Rattle.std.proofs.lemmas.Grind.{flat_map-append}
-use Rattle.std.specs.Prelude.{bytes_eq, flat_map, ◌≡◌, ◌++◌, ◌≤◌, ◌<◌, ◌+◌, ℕ, zero, suc, List, [], ◌∷◌, Option, Some, None, map, fold, take, drop, length, refl}
+use Rattle.std.specs.Prelude.{bytes_eq, flat_map, ◌≡◌, ◌++◌, ◌≤◌, ◌<◌, ◌+◌, ℕ, zero, suc, List, [], ◌∷◌, Option, Some, None, take, drop, length, refl}
 use Rattle.std.proofs.Common.{ap, sym, ◌∙◌, subst, get_or, append_assoc, add-one, arith}
 use Rattle.ev_terms.specs.Term.{Term}
 use Rattle.ev_typing.specs.declared.typing.Entry.{Entry}
-use Rattle.ev_typing.specs.declared.typing.Entry.TheVariants as entry
 use Rattle.ev_typing.specs.declared.typing.Signature.{Signature}
 use Rattle.ev_typing.specs.Env.{Env, names}
 use Rattle.ev_typing.specs.WellFormed.{IsWellFormed, HasNewNames, IsGoodEntry, AreGoodAfter}

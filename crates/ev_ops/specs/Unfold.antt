@@ -6,6 +6,8 @@ use Rattle.ev_terms.specs.declared.types.Sym.{Sym}
 use Rattle.ev_terms.specs.declared.types.Sym.TheVariants.{Base, User}
 use Rattle.ev_terms.specs.Term.{Term, Terms, var, lit, node, nil, cons, term_list}
 use Rattle.ev_terms.specs.Substitution.{fill, instance}
+use Rattle.ev_terms.specs.Measures.{size, depth, capped}
+use Rattle.ev_terms.specs.declared.extents.Extent.{Extent}
 use Rattle.ev_typing.specs.declared.typing.Entry.{Entry}
 use Rattle.ev_typing.specs.declared.typing.Entry.TheVariants.{Direct}
 use Rattle.ev_typing.specs.declared.typing.Sequent.{Sequent}
@@ -49,3 +51,7 @@ unfolded env t = unfold_by (bodies_after [] env) t
 -- the sequent with hypotheses and goal unfolded
 abbrev pub unfolded_sequent : Env → Sequent → Sequent
 unfolded_sequent env S = record { context = S.context; hyps = map (unfolded env) S.hyps; goal = unfolded env S.goal }
+
+-- how large the term is without direct operators
+abbrev pub unfolded_extent : Env → Term → Extent
+unfolded_extent env t = record { size = capped (size (unfolded env t)); depth = capped (depth (unfolded env t)) }

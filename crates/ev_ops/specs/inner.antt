@@ -1,2 +1,4 @@
 pub mod Tests
 pub mod Kept
+pub mod Fit
+pub mod Weights

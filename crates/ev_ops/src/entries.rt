@@ -77,9 +77,9 @@ pub fn env_of(alloc: Global, elements: &Elements) -> Result<Env, NoMemory>
     Ok(env)
 }
 
-/// One more element, where the bodies are those of the environment.
+/// One more element, where the bodies are those of the environment. Both grow by what the element declares.
 #[tactic(auto, using(crate::proofs::Making::single))]
-fn add_element(
+pub fn add_element(
     alloc: Global,
     env: &mut Env,
     bodies: &mut Bodies,

@@ -9,7 +9,7 @@ ghost use Rattle.ev_terms.specs.Substitution.{type_inst, types_inst, type_at};
 ghost use Rattle.ev_terms.specs.Types.{type_list};
 ghost use Rattle.ev_terms.specs.Measures.{capped};
 ghost use Rattle.ev_terms.specs.Term.{terms};
-ghost use Rattle.ev_typing.specs.TypeLists.{params_from};
+ghost use Rattle.ev_typing.specs.TypeLists.{own_types};
 ghost use Rattle.ev_data.specs.Guarded.{is_named, IsVarOf};
 ghost use Rattle.ev_ops.specs.inner.Tests.{calls, some_call, IsOwnVar, IsSeenVar, IsSeen, IsGuardedUnder, AreGuardedUnder};
 
@@ -112,27 +112,26 @@ fn is_named(sig: &Signature, sym: &Sym) -> bool
 fn is_call_guarded(guard: &Guard, depth: u64, types: &Tys, arguments: &[Tree]) -> bool
     ensures { IsTrue result ↔ IsSeen guard.now.sig.now guard.now.place guard.now.own.now guard.now.types.now guard.now.con.now depth types.now arguments.now }
 {
-    are_own_types(types, 0, guard.sig.params) && is_argument(guard, depth, arguments)
+    are_own_types(types, guard.sig.params) && is_argument(guard, depth, arguments)
 }
 
-/// Whether the types are the parameters from i on, below n.
-#[tactic(auto, using(crate::proofs::Guarding::own))]
-fn are_own_types(types: &Tys, i: u32, n: u32) -> bool
-    requires { i ≤ n }
-    ensures { IsTrue result ↔ (types.now ≡ params_from i (n - i)) }
+/// Whether the types are the n parameters of an operator, in order.
+fn are_own_types(types: &Tys, n: u32) -> bool
+    ensures { IsTrue result ↔ (types.now ≡ own_types n) }
 {
-    match types {
-        Tys::Empty => i == n,
-        Tys::More(ty, rest) => {
-            if i == n {
-                return false;
-            }
-            if !is_param(ty.get(), i) {
-                return false;
-            }
-            are_own_types(rest.get(), i + 1, n)
+    let mut left = types;
+    let mut i = 0;
+    while let Tys::More(ty, rest) = left {
+        if i == n {
+            return false;
         }
+        if !is_param(ty.get(), i) {
+            return false;
+        }
+        i += 1;
+        left = rest.get();
     }
+    i == n
 }
 
 fn is_param(ty: &Ty, i: u32) -> bool

@@ -7,4 +7,3 @@ pub mod Using
 pub mod BindSteps
 pub mod Numbering
 pub mod PlaceSteps
-pub mod Signing

@@ -5,5 +5,4 @@ pub mod Unknown
 pub mod BareView
 pub mod BareCode
 pub mod BareFalls
-pub mod Signing
 pub mod Places

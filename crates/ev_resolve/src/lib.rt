@@ -11,7 +11,6 @@ mod marks;
 mod names;
 mod resolving;
 mod scope;
-pub mod signatures;
 mod taken;
 mod types;
 mod used;
@@ -20,7 +19,6 @@ pub use bare::{Bare, BareForm, BareTerms, bare_literal, bare_symbol, bare_typed,
 pub use formula_names::FormulaNames;
 pub use resolving::resolve;
 pub use scope::{Scope, ScopeVariable};
-pub use signatures::{SymbolTypes, types_of_symbol};
 pub use taken::has_taken_binder;
 pub use types::resolve_type;
 pub use used::{has_unknown_name, has_unknown_type};

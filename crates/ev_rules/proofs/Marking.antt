@@ -1,5 +1,5 @@
 -- What the marks of type parameters are.
-use Rattle.std.proofs.Common.{◌≡◌, ◌≢◌, ℕ, zero, suc, ◌+◌, ◌≤◌, ◌<◌, Bool as Boolean, true, false, cond, List, [], ◌∷◌, ◌++◌, length, drop, get_or, replicate, max, append_assoc, None, ap, sym, ◌∙◌, refl, arith, add-one}
+use Rattle.std.proofs.Common.{◌≡◌, ◌≢◌, ℕ, zero, suc, ◌+◌, ◌≤◌, ◌<◌, Bool as Boolean, true, false, cond, List, [], ◌∷◌, ◌++◌, length, drop, get_or, replicate, max, append_assoc, ap, sym, ◌∙◌, refl, arith, add-one}
 use Rattle.std.specs.Prelude.{◌||◌, ◌==◌, slice_set, filter}
 use Rattle.std.specs.List.{list_any, range_with_len}
 use Rattle.std.proofs.lemmas.Bool.Decides.{nat_tests}

@@ -3,8 +3,9 @@
 #![tactic(auto)]
 
 pub mod elements;
-mod occurring;
+pub mod occurring;
 pub mod params;
 
 pub use elements::{Branch, Branches, Element, Elements, InferenceRule, RewriteRule};
+pub use occurring::params_of;
 pub use params::element_params;

@@ -10,9 +10,9 @@ use ev_forms::node_parts;
 use ev_terms::{Ids, NoMemory, Tree, Ty, Tys, bounds_of, types_params};
 use std::alloc::Global;
 
-/// The type parameters that occur in the terms or types, in order.
+/// The type parameters that occur in the terms or types, in order. Linear in them and in the greatest parameter.
 #[tactic(auto, using(crate::proofs::Marking::found))]
-pub(crate) fn params_of(alloc: Global, trees: &[Tree], types: &Tys) -> Result<Ids, NoMemory>
+pub fn params_of(alloc: Global, trees: &[Tree], types: &Tys) -> Result<Ids, NoMemory>
     ensures { IfOk result (λ ids. ids ≡ params_of trees.now types.now) }
 {
     let count = greatest_param(trees).max(types_params(types));

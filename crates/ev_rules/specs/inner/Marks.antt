@@ -1,5 +1,5 @@
 -- Numbers that are marked.
-use Rattle.std.specs.Prelude.{ℕ, suc, Bool as Boolean, true, false, ◌||◌, List, [], ◌∷◌, cond}
+use Rattle.std.specs.Prelude.{ℕ, suc, Bool as Boolean, ◌||◌, List, [], ◌∷◌, cond}
 
 -- marks for the numbers from j on, with those of which the test holds
 abbrev pub marked : ℕ → (ℕ → Boolean) → List Boolean → List Boolean

@@ -1,6 +1,0 @@
-use Rattle.std.proofs.Common.{◌≡◌, ◌++◌}
-use Rattle.ev_terms.specs.Types.{type_list}
-use Rattle.ev_resolve.proofs.signatures.listed.Given as goal
-
-abbrev pub invariant-loop-left : goal.invariant-loop-left
-invariant-loop-left l = l.list ++ type_list l.left ≡ type_list l.types
