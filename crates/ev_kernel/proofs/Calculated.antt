@@ -1,6 +1,6 @@
 -- Facts on literals.
-use Rattle.std.specs.Prelude.{◌≡◌, ◌≢◌, ◌↔◌, ◌+◌, ◌*◌, ◌<◌, ◌≤◌, ℕ, Bool as Boolean, true, List, [], ◌∷◌, Option, Some, None, length, IsTrue, IfSome, refl}
-use Rattle.std.proofs.Common.{ap, sym, ◌∙◌, subst as transport, arith}
+use Rattle.std.specs.Prelude.{◌≡◌, ◌≢◌, ◌↔◌, ◌+◌, ◌*◌, ◌<◌, ◌≤◌, ℕ, Bool as Boolean, true, List, [], ◌∷◌, IsTrue, refl}
+use Rattle.std.proofs.Common.{sym, ◌∙◌}
 use Rattle.ev_terms.specs.declared.types.Ty.{Ty, Int}
 use Rattle.ev_terms.specs.declared.types.Tys.{Tys}
 use Rattle.ev_terms.specs.declared.types.Sym.{Sym}

@@ -17,7 +17,7 @@ use Rattle.ev_typing.specs.Sequents.{◌⊢◌}
 use Rattle.ev_typing.specs.BaseSequents.{widened}
 use Rattle.ev_typing.proofs.Laws.{types-type_list}
 use Rattle.ev_typing.proofs.Names.{drop_at, drop_all}
-use Rattle.ev_kernel.specs.Contexts.{optional}
+use Rattle.ev_kernel.specs.inner.Contexts.{optional}
 use Rattle.ev_kernel.specs.Row.{AreEquated, AreCongruent, at_children}
 use Rattle.ev_kernel.specs.Derivable.{numbered, named}
 use Rattle.ev_kernel.proofs.Rows.{named_more}

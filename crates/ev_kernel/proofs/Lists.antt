@@ -5,14 +5,13 @@ use Rattle.std.specs.List.{AllByRecursion}
 use Rattle.ev_terms.specs.declared.types.Ty.{Ty}
 use Rattle.ev_terms.specs.declared.types.Tys.{Tys, Empty}
 use Rattle.ev_terms.specs.declared.types.Tys.TheVariants.{More}
-use Rattle.ev_terms.specs.Types.{type_list, More-more}
+use Rattle.ev_terms.specs.Types.{more, type_list, More-more}
 use Rattle.ev_terms.proofs.TypeSteps.{type_list-More}
 use Rattle.ev_terms.proofs.Children.{drop_at, drop_all}
 use Rattle.ev_typing.specs.TypeLists.{types}
 use Rattle.ev_typing.proofs.Laws.{types-type_list}
 use Rattle.ev_typing.proofs.Names.{all_append}
-use Rattle.ev_kernel.specs.Contexts.{optional}
-use Rattle.ev_kernel.proofs.Equations.{refused}
+use Rattle.ev_kernel.specs.inner.Contexts.{optional}
 
 pub extended-More : (A : Ty) (rest : Tys) (B : Ty) → types (type_list (More A rest) ++ B ∷ []) ≡ More A (types (type_list rest ++ B ∷ []))
 extended-More A rest B = ap (λ As. types (As ++ B ∷ [])) (type_list-More A rest) ∙ sym (More-more A (types (type_list rest ++ B ∷ [])))
@@ -49,40 +48,34 @@ more_parts A B As Bs e =
     let k : type_list As ≡ type_list Bs = cc in
     (cc, sym (types-type_list As) ∙ ap types k ∙ types-type_list Bs)
 
-pub with_parts : (L : Tys) (A A' : Ty) (rest rest' : Tys) → L ≡ More A rest → A' ≡ A → rest' ≡ rest → L ≡ More A' rest'
-with_parts L A A' rest rest' e f g = e ∙ ap (λ x. More x rest) (sym f) ∙ ap (λ x. More A' x) (sym g)
-
 extended_by : (L S : Tys) (B C : Ty) (others : Tys) → S ≡ More B others → types (type_list S ++ C ∷ []) ≡ More B (types (type_list others ++ C ∷ []))
 extended_by L S B C others e = ap (λ x. types (type_list x ++ C ∷ [])) e ∙ extended-More B others C
 
-pub extends_more : (L S : Tys) (A B C : Ty) (rest others : Tys) (b : Boolean) → L ≡ More A rest → S ≡ More B others → A ≡ B →
-    (IsTrue b ↔ (rest ≡ types (type_list others ++ C ∷ []))) → IsTrue b ↔ (L ≡ types (type_list S ++ C ∷ []))
-extends_more L S A B C rest others b e f a d = (
-  λ y. e ∙ ap (λ x. More x rest) a ∙ ap (λ x. More B x) (d.0 y) ∙ sym (extended_by L S B C others f),
-  λ y. d.1 (more_parts A B rest (types (type_list others ++ C ∷ [])) (sym e ∙ y ∙ extended_by L S B C others f)).1,
+-- One step along both lists: the same type in front, and the rest.
+pub extends_more : (L S : Tys) (A B C : Ty) (rest rest' others others' : Tys) → L ≡ More A rest → S ≡ More B others → rest' ≡ rest → others' ≡ others → A ≡ B →
+    (rest' ≡ types (type_list others' ++ C ∷ [])) ↔ (L ≡ types (type_list S ++ C ∷ []))
+extends_more L S A B C rest rest' others others' e f g h a = (
+  λ y. e ∙ ap (λ x. More x rest) a ∙ ap (λ x. More B x) (sym g ∙ y ∙ ap (λ x. types (type_list x ++ C ∷ [])) h) ∙ sym (extended_by L S B C others f),
+  λ y. g ∙ (more_parts A B rest (types (type_list others ++ C ∷ [])) (sym e ∙ y ∙ extended_by L S B C others f)).1 ∙ ap (λ x. types (type_list x ++ C ∷ [])) (sym h),
 )
 
-pub extends_other : (L S : Tys) (A B C : Ty) (rest others : Tys) → L ≡ More A rest → S ≡ More B others → ¬ (A ≡ B) → IsTrue false ↔ (L ≡ types (type_list S ++ C ∷ []))
-extends_other L S A B C rest others e f n =
-    refused (λ y. n (more_parts A B rest (types (type_list others ++ C ∷ [])) (sym e ∙ y ∙ extended_by L S B C others f)).0)
+pub extends_other : (L S : Tys) (A B C : Ty) (rest others : Tys) → L ≡ More A rest → S ≡ More B others → ¬ (A ≡ B) → ¬ (L ≡ types (type_list S ++ C ∷ []))
+extends_other L S A B C rest others e f n y = n (more_parts A B rest (types (type_list others ++ C ∷ [])) (sym e ∙ y ∙ extended_by L S B C others f)).0
 
-pub extends_last : (L S : Tys) (A C : Ty) (rest : Tys) (b : Boolean) → L ≡ More A rest → S ≡ Empty → A ≡ C → (IsTrue b ↔ (rest ≡ Empty)) → IsTrue b ↔ (L ≡ types (type_list S ++ C ∷ []))
-extends_last L S A C rest b e f a d =
-    let k : types (type_list S ++ C ∷ []) ≡ More C Empty = ap (λ x. types (type_list x ++ C ∷ [])) f ∙ extended-Empty C in (
-      λ y. e ∙ ap (λ x. More x rest) a ∙ ap (λ x. More C x) (d.0 y) ∙ sym k,
-      λ y. d.1 (more_parts A C rest Empty (sym e ∙ y ∙ k)).1,
+-- The list of one type.
+pub only_rest : (L : Tys) (A A' B : Ty) (rest rest' : Tys) (b : Boolean) → L ≡ More A rest → A' ≡ A → rest' ≡ rest → A' ≡ B → (IsTrue b ↔ (rest' ≡ Empty)) →
+    IsTrue b ↔ (L ≡ more B Empty)
+only_rest L A A' B rest rest' b e f g a d =
+    let h : more B Empty ≡ More A Empty = sym (More-more B Empty) ∙ ap (λ x. More x Empty) (sym a ∙ f) in (
+      λ y. e ∙ ap (More A) (sym g ∙ d.0 y) ∙ sym h,
+      λ y. d.1 (g ∙ (more_parts A A rest Empty (sym e ∙ y ∙ h)).1),
     )
 
-pub extends_not_last : (L S : Tys) (A C : Ty) (rest : Tys) → L ≡ More A rest → S ≡ Empty → ¬ (A ≡ C) → IsTrue false ↔ (L ≡ types (type_list S ++ C ∷ []))
-extends_not_last L S A C rest e f n =
-    refused (λ y. n (more_parts A C rest Empty (sym e ∙ y ∙ ap (λ x. types (type_list x ++ C ∷ [])) f ∙ extended-Empty C)).0)
-
-pub extends_nothing : (L S : Tys) (C : Ty) → L ≡ Empty → IsTrue false ↔ (L ≡ types (type_list S ++ C ∷ []))
-extends_nothing L S C e = refused (none (type_list S))
-  where
-    none : (As : List Ty) → ¬ (L ≡ types (As ++ C ∷ []))
-    none [] y = let h : type_list Empty ≡ C ∷ [] = ap type_list (sym e ∙ y) in cc
-    none (A ∷ As) y = let h : type_list Empty ≡ A ∷ type_list (types (As ++ C ∷ [])) = ap type_list (sym e ∙ y) in cc
+pub only_other : (L : Tys) (A A' B : Ty) (rest : Tys) (b : Boolean) → L ≡ More A rest → A' ≡ A → (IsTrue b ↔ (A' ≡ B)) → b ≡ false → IsTrue b ↔ (L ≡ more B Empty)
+only_other L A A' B rest b e f d n = (
+  λ y. cc,
+  λ y. d.1 (f ∙ (more_parts A B rest Empty (sym e ∙ y ∙ sym (More-more B Empty))).0),
+)
 
 -- the first type, if any
 pub first_type : (As : List Ty) (n : ℕ) (o : Option Ty) → (n ≡ 0 → ⊥) → n ≤ 1 → o ≡ slice_get As 0 → optional o ≡ take n As

@@ -1,3 +1,3 @@
-pub mod Contexts
 pub mod Row
 pub mod Derivable
+pub mod inner

@@ -3,12 +3,12 @@ ghost use Rattle.std.specs.Prelude.{◌≡◌, ◌↔◌, [], ◌∷◌, ◌++�
 ghost use Rattle.std.specs.Option.{option_copied};
 ghost use Rattle.std.specs.List.{AllByRecursion};
 ghost use Rattle.ev_terms.specs.declared.types.Tys.{Empty};
-ghost use Rattle.ev_terms.specs.Types.{type_list};
+ghost use Rattle.ev_terms.specs.Types.{more, type_list};
 ghost use Rattle.ev_terms.specs.Substitution.{shift};
 ghost use Rattle.ev_typing.specs.TypeLists.{types};
 ghost use Rattle.ev_typing.specs.Sequents.{◌⊢◌, ◌▹◌};
 ghost use Rattle.ev_typing.specs.BaseSequents.{widened, under};
-ghost use Rattle.ev_kernel.specs.Contexts.{optional};
+ghost use Rattle.ev_kernel.specs.inner.Contexts.{optional};
 
 use crate::instances::{are_shifted, is_shift};
 use ev_terms::{Same, Tree, Ty, Tys, same, same_all};
@@ -77,25 +77,33 @@ pub(crate) fn are_among(trees: &[Tree], others: &[Tree]) -> bool
     true
 }
 
-/// Whether the types are the other ones and one more behind them.
+/// Whether the types are the other ones and one more behind them. A loop along both lists.
 #[tactic(auto, using(crate::proofs::Lists::one_more_type))]
 fn extends(longer: &Tys, shorter: &Tys, last: &Ty) -> bool
     ensures { IsTrue result ↔ (longer.now ≡ types (type_list shorter.now ++ last.now ∷ [])) }
 {
-    match (longer, shorter) {
-        (Tys::More(a, rest), Tys::More(b, others)) => {
-            if !a.get().same(b.get()) {
-                return false;
-            }
-            extends(rest.get(), others.get(), last)
+    let mut left = longer;
+    let mut others = shorter;
+    while let Tys::More(b, further) = others {
+        let Tys::More(a, rest) = left else {
+            return false;
+        };
+        if !a.get().same(b.get()) {
+            return false;
         }
-        (Tys::More(a, rest), Tys::Empty) => {
-            if !a.get().same(last) {
-                return false;
-            }
-            is_empty(rest.get())
-        }
-        (Tys::Empty, _) => false,
+        left = rest.get();
+        others = further.get();
+    }
+    is_only(left, last)
+}
+
+/// Whether this type is the only one.
+fn is_only(types: &Tys, ty: &Ty) -> bool
+    ensures { IsTrue result ↔ (types.now ≡ more ty.now Empty) }
+{
+    match types {
+        Tys::More(a, rest) => a.get().same(ty) && is_empty(rest.get()),
+        Tys::Empty => false,
     }
 }
 

@@ -11,7 +11,7 @@ ghost use Rattle.ev_forms.specs.Binders.{equated};
 ghost use Rattle.ev_forms.specs.Forms.{equation, eq, mem, such_that, bool_of, bool_true};
 ghost use Rattle.ev_typing.specs.Sequents.{◌⊢◌};
 ghost use Rattle.ev_typing.specs.BaseSequents.{widened};
-ghost use Rattle.ev_kernel.specs.Contexts.{optional};
+ghost use Rattle.ev_kernel.specs.inner.Contexts.{optional};
 ghost use Rattle.ev_kernel.specs.Row.{Row, AreEquated, AreCongruent};
 ghost use Rattle.ev_kernel.specs.Derivable.{named};
 ghost use Rattle.ev_kernel.specs.declared.rules.BaseRule.TheVariants.{Refl, Sym as Symmetry, Trans, Cong, SetMem, BoolMem};

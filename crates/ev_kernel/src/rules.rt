@@ -3,7 +3,7 @@ ghost use Rattle.std.specs.List.{AllByRecursion};
 ghost use Rattle.ev_terms.specs.declared.types.Tys.{Tys};
 ghost use Rattle.ev_terms.specs.Term.{Term};
 ghost use Rattle.ev_typing.specs.BaseSequents.{IsBaseSequent};
-ghost use Rattle.ev_typing.specs.Env.{Name};
+ghost use Rattle.ev_typing.specs.Env.{Env, Name};
 ghost use Rattle.ev_kernel.specs.declared.rules.BaseRule.TheVariants.{Cong, Ind, Inst, AllE, ExI, Axiom, Des, Dis, Rec};
 ghost use Rattle.ev_kernel.specs.Row.{Row};
 ghost use Rattle.ev_kernel.specs.Derivable.{Follows, named};
@@ -190,19 +190,19 @@ fn follows_from_none(
         BaseRule::Des(con, place) => destructor(alloc, env, con, *place, conclusion),
         BaseRule::Dis(left, right) => distinct_constructors(alloc, env, left, right, conclusion),
         BaseRule::Rec(op, con) => recursion(alloc, env, op, con, conclusion),
-        _ => Ok(concludes_plainly(env, rule, conclusion)),
+        _ => Ok(concludes_plainly(rule, conclusion)),
     }
 }
 
 /// The rules without premises and without fields.
-fn concludes_plainly(_env: &Env, rule: &BaseRule, conclusion: &Sequent) -> bool
+fn concludes_plainly(rule: &BaseRule, conclusion: &Sequent) -> bool
     requires congruence { rule.now ≢ Cong }
     requires induction { rule.now ≢ Ind }
     requires axiom { (k : ℕ) → rule.now ≢ Axiom k }
     requires destructor { (con : Name) (place : ℕ) → rule.now ≢ Des con place }
     requires distinctness { (left right : Name) → rule.now ≢ Dis left right }
     requires recursion { (op con : Name) → rule.now ≢ Rec op con }
-    ensures { IsTrue result ↔ Row _env.now [] rule.now conclusion.now }
+    ensures { (env : Env) → IsTrue result ↔ Row env [] rule.now conclusion.now }
 {
     match rule {
         BaseRule::Hyp => hypothesis(conclusion),
@@ -234,18 +234,18 @@ fn follows_from_one(
         ),
         BaseRule::AllE(term) => forall_elim(alloc, env, term, premise, conclusion),
         BaseRule::ExI(term) => exists_intro(alloc, env, term, premise, conclusion),
-        _ => Ok(follows_plainly(env, premise, rule, conclusion)),
+        _ => Ok(follows_plainly(premise, rule, conclusion)),
     }
 }
 
 /// The rules with one premise and without fields.
-fn follows_plainly(_env: &Env, premise: &Sequent, rule: &BaseRule, conclusion: &Sequent) -> bool
+fn follows_plainly(premise: &Sequent, rule: &BaseRule, conclusion: &Sequent) -> bool
     requires congruence { rule.now ≢ Cong }
     requires induction { rule.now ≢ Ind }
     requires instance { (As : Tys) (ts : List Term) → rule.now ≢ Inst As ts }
     requires all { (t : Term) → rule.now ≢ AllE t }
     requires witness { (t : Term) → rule.now ≢ ExI t }
-    ensures { IsTrue result ↔ Row _env.now (premise.now ∷ []) rule.now conclusion.now }
+    ensures { (env : Env) → IsTrue result ↔ Row env (premise.now ∷ []) rule.now conclusion.now }
 {
     match rule {
         BaseRule::Weak => weakening(premise, conclusion),
@@ -264,7 +264,6 @@ fn follows_plainly(_env: &Env, premise: &Sequent, rule: &BaseRule, conclusion: &
 
 /// The rules with two premises, but for congruence and induction.
 fn follows_from_two(
-    _env: &Env,
     first: &Sequent,
     second: &Sequent,
     rule: &BaseRule,
@@ -272,7 +271,7 @@ fn follows_from_two(
 ) -> bool
     requires congruence { rule.now ≢ Cong }
     requires induction { rule.now ≢ Ind }
-    ensures { IsTrue result ↔ Row _env.now (first.now ∷ second.now ∷ []) rule.now conclusion.now }
+    ensures { (env : Env) → IsTrue result ↔ Row env (first.now ∷ second.now ∷ []) rule.now conclusion.now }
 {
     match rule {
         BaseRule::Cut => cut(first, second, conclusion),
@@ -290,7 +289,6 @@ fn follows_from_two(
 
 /// The rule with three premises, but for congruence and induction.
 fn follows_from_three(
-    _env: &Env,
     first: &Sequent,
     second: &Sequent,
     third: &Sequent,
@@ -299,7 +297,7 @@ fn follows_from_three(
 ) -> bool
     requires congruence { rule.now ≢ Cong }
     requires induction { rule.now ≢ Ind }
-    ensures { IsTrue result ↔ Row _env.now (first.now ∷ second.now ∷ third.now ∷ []) rule.now conclusion.now }
+    ensures { (env : Env) → IsTrue result ↔ Row env (first.now ∷ second.now ∷ third.now ∷ []) rule.now conclusion.now }
 {
     match rule {
         BaseRule::OrE => or_elim(first, second, third, conclusion),
@@ -330,13 +328,13 @@ fn follows_from(
         [first, second] => {
             let first = premise_of(earlier, *first);
             let second = premise_of(earlier, *second);
-            Ok(follows_from_two(env, first, second, rule, conclusion))
+            Ok(follows_from_two(first, second, rule, conclusion))
         }
         [first, second, third] => {
             let first = premise_of(earlier, *first);
             let second = premise_of(earlier, *second);
             let third = premise_of(earlier, *third);
-            Ok(follows_from_three(env, first, second, third, rule, conclusion))
+            Ok(follows_from_three(first, second, third, rule, conclusion))
         }
         [_, _, _, _, ..] => Ok(false),
     }

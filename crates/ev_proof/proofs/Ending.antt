@@ -8,9 +8,11 @@ use Rattle.ev_syntax.specs.inner.TypeParser.{begins}
 use Rattle.ev_syntax.specs.declared.sorts.Sort.TheVariants.{Expr}
 use Rattle.ev_syntax.specs.Parses.{ReadsAs}
 use Rattle.ev_proof.specs.declared.steps.Cite.{Cite}
-use Rattle.ev_proof.specs.Steps.{Number, ReadsTypes, ReadsTerms, ReadsCite}
-use Rattle.ev_proof.specs.inner.Taking.{Anything, AtEnd, EndsType, EndsTypes, EndsFormula, EndsTerms, NoNumber, begins_number}
-use Rattle.ev_proof.proofs.Listing.{Ties, mark_ties}
+use Rattle.ev_parse.specs.Sequences.{Number}
+use Rattle.ev_proof.specs.Steps.{ReadsTypes, ReadsTerms, ReadsCite}
+use Rattle.ev_parse.specs.inner.Taking.{Anything, AtEnd, EndsType, EndsFormula, NoNumber, begins_number}
+use Rattle.ev_proof.specs.inner.Following.{EndsTypes, EndsTerms}
+use Rattle.ev_parse.proofs.Listing.{Ties, mark_ties}
 
 -- lists
 pub types_ties : Ties (λ a. Is (mark comma) then ReadsType a true) EndsTypes EndsType (begins comma)

@@ -1,6 +1,3 @@
-pub mod Takings
-pub mod PieceLaws
-pub mod Listing
 pub mod Ending
 pub mod WordLaws
 pub mod OneStep

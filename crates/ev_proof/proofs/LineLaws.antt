@@ -1,25 +1,22 @@
 -- What a line is, by its tokens.
-use Rattle.std.proofs.Common.{◌≡◌, ℕ, ◌<◌, ◌^◌, Bool, true, false, List, [], ◌∷◌, refl, ap, subst, sym, ◌∙◌, arith, true≢false}
-use Rattle.std.specs.Prelude.{Option, Some, None, Result, Err, ◌↔◌, nat_le, ◌||◌, slice_range, if◌then◌else◌}
+use Rattle.std.proofs.Common.{◌≡◌, ℕ, Bool, true, false, List, [], refl, ap, subst, sym, ◌∙◌, true≢false}
+use Rattle.std.specs.Prelude.{Option, Some, None, Result, Err, ◌↔◌, IsTrue, if◌then◌else◌}
 use Rattle.std.specs.List.{list_any}
-use Rattle.std.proofs.lemmas.Bool.Decides.{nat_tests}
-use Rattle.std.proofs.lemmas.List.Elements.{All-tail}
 use Rattle.ev_syntax.specs.Tokens.{Token, Tokens, HasTokens, IsBadText, HasTooLarge, tokens_of, is_too_large}
-use Rattle.ev_syntax.specs.Views.{all_seen_in, token_with, IsSmall}
+use Rattle.ev_syntax.specs.Views.{all_seen_in}
 use Rattle.ev_syntax.specs.inner.Reading.{AreSmall}
 use Rattle.ev_syntax.specs.declared.kinds as kinds
-use Rattle.ev_syntax.specs.declared.kinds.TokenKind.{TokenKind}
-use Rattle.ev_syntax.specs.declared.kinds.TokenKind.TheVariants.{Name, Number, Mark}
 use Rattle.ev_syntax.specs.declared.faults.LexFault.{LexFault}
 use Rattle.ev_syntax.specs.declared.faults.LexFault.TheVariants.{BadText, NumberTooLarge, NoMemory}
 use Rattle.ev_syntax.proofs.Continuing.{text_tokens_same}
+use Rattle.ev_parse.proofs.SmallTokens.{small_tokens}
 use Rattle.ev_proof.specs.declared.steps.Step.{Step}
 use Rattle.ev_proof.specs.Steps.{ReadsStep}
 use Rattle.ev_proof.specs.Depths.{step_deep}
 use Rattle.ev_proof.specs.Lines.{IsStep, IsStepLine}
 use Rattle.ev_proof.specs.StepLaws.{LineIsOneStep}
-use Rattle.ev_proof.specs.inner.Taking.{State, kept, Takes, Took, AtEnd}
-use Rattle.ev_proof.specs.inner.Places.{IsShallow, StepOf}
+use Rattle.ev_parse.specs.inner.Taking.{State, kept, Takes, Took, AtEnd}
+use Rattle.ev_proof.specs.inner.StepAnswers.{IsShallow, StepOf}
 use Rattle.ev_proof.proofs.OneStep.{one_step}
 
 -- what a reader took from all the tokens
@@ -37,32 +34,22 @@ is_kept a step e = go (step_deep a) refl e
     go true d e = cc
     go false d e = (cc, d)
 
-pub none_of_rest : (ts : List Token) (s t : State) (v : Option Step) → s ≡ Some ts → Took ReadsStep AtEnd step_deep s v t → ¬ (t ≡ Some []) → StepOf ts None
+none_of_rest : (ts : List Token) (s t : State) (v : Option Step) → s ≡ Some ts → Took ReadsStep AtEnd step_deep s v t → ¬ (t ≡ Some []) → StepOf ts None
 none_of_rest ts s None v e h not step i = (subst (λ x. Took ReadsStep AtEnd step_deep x v None) e h).takes step [] i.0 refl
 none_of_rest ts s (Some us) v e h not step i =
     let k = (subst (λ x. Took ReadsStep AtEnd step_deep x v (Some us)) e h).takes in not (ap (λ xs. Some xs) (sym (k.4 step [] i.0 refl).1))
 
-pub step_of_all : (ts : List Token) (s t : State) (v : Option Step) → s ≡ Some ts → Took ReadsStep AtEnd step_deep s v t → t ≡ Some [] → StepOf ts v
+step_of_all : (ts : List Token) (s t : State) (v : Option Step) → s ≡ Some ts → Took ReadsStep AtEnd step_deep s v t → t ≡ Some [] → StepOf ts v
 step_of_all ts s t v e h end = go v (subst (λ x. Took ReadsStep AtEnd step_deep (Some ts) v x) end (subst (λ x. Took ReadsStep AtEnd step_deep x v t) e h)).takes
   where
     go : (v : Option Step) → Takes ReadsStep AtEnd step_deep ts v (Some []) → StepOf ts v
     go None k = λ step i. true≢false (sym (not_kept k.0 k.1) ∙ ap step_deep (sym (k.4 step [] i.0 refl).0) ∙ i.1)
     go (Some step) k = let is = is_kept k.0 step k.1 in (subst (λ x. ReadsStep x ts []) (sym is.0) k.2, ap step_deep is.0 ∙ is.1)
 
--- no literal is too large
-below : (n : ℕ) → n < 2 ^ 127 → nat_le (2 ^ 127) n ≡ false
-below n h = grind (arith, nat_tests)
-
-small_kind : (k : TokenKind) (bytes : List ℕ) → IsSmall k → is_too_large (token_with k bytes) ≡ false
-small_kind Name bytes h = refl
-small_kind (Number n) bytes h = below n h
-small_kind (Mark m) bytes h = refl
-
-small_tokens : (text : List ℕ) (ts : List kinds.Token.Token) → AreSmall ts → list_any is_too_large (tokens_of (all_seen_in text ts)) ≡ false
-small_tokens text [] h = refl
-small_tokens text (t ∷ ts) h =
-    ap (λ b. b || list_any is_too_large (tokens_of (all_seen_in text ts))) (small_kind t.kind (slice_range text t.start t.end) (h 0 t (omega arith)))
-    ∙ small_tokens text ts (All-tail (λ t. IsSmall t.kind) t ts h)
+pub whole_line : (ts : List Token) (s t : State) (v : Option Step) (is_at_end : Bool) → s ≡ Some ts → Took ReadsStep AtEnd step_deep s v t → IsTrue is_at_end ↔ (t ≡ Some [])
+    → StepOf ts (if is_at_end then v else None)
+whole_line ts s t v true e h i = step_of_all ts s t v e h (i.0 refl)
+whole_line ts s t v false e h i = none_of_rest ts s t v e h (λ d. true≢false (sym (i.1 d)))
 
 -- a line has one list of tokens
 same_tokens : (line : List ℕ) (ts us : List Token) → Tokens line ts → Tokens line us → ts ≡ us

@@ -16,12 +16,13 @@ use Rattle.ev_proof.specs.declared.steps.Cite.{Cite}
 use Rattle.ev_proof.specs.declared.steps.Step.{Step}
 use Rattle.ev_proof.specs.declared.words.StepWord.{StepWord}
 use Rattle.ev_proof.specs.declared.words.StepWord.TheVariants.{Lone, Predicate, Cited, Placed, Weak as weak_word, AllE as alle_word, ExI as exi_word, Trans as trans_word, Axiom as axiom_word, Dis as dis_word, Rewrite as rewrite_word, Cases as cases_word, Fold as fold_word}
-use Rattle.ev_proof.specs.Fronts.{Nothing, Repeated, Further, Separated, MaybeBegun}
-use Rattle.ev_proof.specs.Steps.{Word, Number, ReadsPlace, ReadsRef, ReadsTypes, ReadsTerms, ReadsCite, ReadsStep}
+use Rattle.ev_parse.specs.Sequences.{Nothing, Repeated, Further, Separated, MaybeBegun, Word, Number}
+use Rattle.ev_proof.specs.Steps.{ReadsPlace, ReadsRef, ReadsTypes, ReadsTerms, ReadsCite, ReadsStep}
 use Rattle.ev_proof.specs.inner.Words.{made_ref, made_cite, word_of, spelling, made, ReadsFields, OfWord}
-use Rattle.ev_proof.specs.inner.Taking.{Anything, NotBefore, AtEnd, EndsType, EndsTypes, EndsFormula, EndsTerms, NoNumber, begins_number}
-use Rattle.ev_proof.proofs.PieceLaws.{stops_as}
-use Rattle.ev_proof.proofs.Listing.{Ties, tied}
+use Rattle.ev_parse.specs.inner.Taking.{Anything, NotBefore, AtEnd, EndsType, EndsFormula, NoNumber, begins_number}
+use Rattle.ev_proof.specs.inner.Following.{EndsTypes, EndsTerms}
+use Rattle.ev_parse.proofs.PieceLaws.{stops_as}
+use Rattle.ev_parse.proofs.Listing.{Ties, tied}
 use Rattle.ev_proof.proofs.Ending.{types_ties, terms_ties, numbers_ties, at_end, before_terms, before_cite}
 use Rattle.ev_proof.proofs.WordLaws.{known, by_word}
 

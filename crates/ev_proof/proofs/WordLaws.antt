@@ -13,11 +13,12 @@ use Rattle.ev_proof.specs.declared.words.LoneWord.TheVariants.{Hyp as hyp_word, 
 use Rattle.ev_proof.specs.declared.words.PredicateWord.TheVariants.{Cut as cut_word, Note as note_word, AndE1 as ande1_word, AndE2 as ande2_word, OrE as ore_word, ImpE as impe_word, IffE1 as iffe1_word, IffE2 as iffe2_word, ExE as exe_word}
 use Rattle.ev_proof.specs.declared.words.CitedWord.TheVariants.{Theorem as theorem_word, Assume as assume_word, Infer as infer_word}
 use Rattle.ev_proof.specs.declared.words.PlacedWord.TheVariants.{Unfold as unfold_word, Recur as recur_word, Con as con_word}
-use Rattle.ev_proof.specs.Steps.{Word, ReadsStep}
+use Rattle.ev_parse.specs.Sequences.{Word}
+use Rattle.ev_proof.specs.Steps.{ReadsStep}
 use Rattle.ev_proof.specs.Depths.{step_deep, cite_deep}
 use Rattle.ev_proof.specs.inner.Words.{rows, word_in, word_of, spelling, Fields, made, ReadsFields, fields_deep, OfWord}
-use Rattle.ev_proof.specs.inner.Taking.{State, Takes, TakesFrom, Took, Anything, AtEnd, never}
-use Rattle.ev_proof.proofs.Takings.{map_kept, never_any}
+use Rattle.ev_parse.specs.inner.Taking.{State, Takes, TakesFrom, Took, Anything, AtEnd, never}
+use Rattle.ev_parse.proofs.Takings.{map_kept, never_any}
 
 -- the table tells the bytes of each word, and each word is told by its bytes
 rows_spelled : AllByRecursion (λ (row : List ℕ × StepWord). row.0 ≡ spelling row.1) rows

@@ -1,20 +1,10 @@
 -- Steps in which a formula or a type is nested too deeply.
-use Rattle.std.specs.Prelude.{ℕ, Bool, false, ◌||◌, nat_lt}
+use Rattle.std.specs.Prelude.{Bool, false, ◌||◌}
 use Rattle.std.specs.List.{list_any}
-use Rattle.ev_syntax.specs.Raw.{RawType, Raw, nesting, type_nesting}
+use Rattle.ev_parse.specs.Depths.{formula_deep, type_deep}
 use Rattle.ev_proof.specs.declared.steps.Cite.{Cite}
 use Rattle.ev_proof.specs.declared.steps.Step.{Step}
 use Rattle.ev_proof.specs.declared.steps.Step.TheVariants.{Cut, Note, AndE1, AndE2, OrE, ImpE, IffE1, IffE2, AllE, ExI, ExE, Trans, Axiom, Theorem, Assume, Dis, Infer, Rewrite, Cases, Fold}
-
--- how deep formulas and types of steps may be nested
-abbrev pub limit : ℕ
-limit = 200
-
-abbrev pub formula_deep : Raw → Bool
-formula_deep e = nat_lt limit (nesting e)
-
-abbrev pub type_deep : RawType → Bool
-type_deep a = nat_lt limit (type_nesting a)
 
 abbrev pub cite_deep : Cite → Bool
 cite_deep c = list_any type_deep c.types || list_any formula_deep c.terms

@@ -1,4 +1,3 @@
-pub mod Fronts
 pub mod Steps
 pub mod Depths
 pub mod Lines

@@ -1,22 +1,16 @@
 -- The steps of proofs, as a grammar: which step stands at the front of some tokens.
 use Rattle.std.specs.Prelude.{ℕ, true, List, codes}
 use Rattle.ev_syntax.specs.Marks.{over_sign, comma, open_bracket, close_bracket, at_word, of_word}
-use Rattle.ev_syntax.specs.Tokens.{name, number, mark}
+use Rattle.ev_syntax.specs.Tokens.{mark}
 use Rattle.ev_syntax.specs.Raw.{RawType, Raw}
 use Rattle.ev_syntax.specs.Grammar.{Front, Is, ◌then◌, ReadsType}
 use Rattle.ev_syntax.specs.declared.sorts.Sort.TheVariants.{Pred, Expr, Either}
 use Rattle.ev_syntax.specs.Parses.{ReadsAs}
-use Rattle.ev_proof.specs.Fronts.{Nothing, Repeated, MaybeBegun}
+use Rattle.ev_parse.specs.Sequences.{Word, Number, Nothing, Repeated, MaybeBegun}
 use Rattle.ev_proof.specs.declared.steps.Ref.{Ref}
 use Rattle.ev_proof.specs.declared.steps.Cite.{Cite}
 use Rattle.ev_proof.specs.declared.steps.Step.{Step}
 use Rattle.ev_proof.specs.declared.steps.Step.TheVariants.{Hyp, TrueI, Em, Refl, SetMem, BoolMem, Calc, Weak, Cut, FalseE, NotI, AndI, OrI1, OrI2, ImpI, IffI, AllI, Sym, Cong, Note, AndE1, AndE2, OrE, ImpE, IffE1, IffE2, AllE, ExI, ExE, Trans, Axiom, Theorem, Assume, Dis, Infer, Rewrite, Cases, Unfold, Fold, Recur, Con, Induct, Open}
-
-abbrev pub Word : List ℕ → Front
-Word n = Is (name n)
-
-abbrev pub Number : ℕ → Front
-Number n = Is (number n)
 
 -- `at` and child numbers, none for the root
 abbrev pub ReadsPlace : List ℕ → Front

@@ -1,3 +1,3 @@
-pub mod Taking
-pub mod Places
+pub mod Following
+pub mod StepAnswers
 pub mod Words

@@ -3,9 +3,7 @@
 #![tactic(auto)]
 
 mod cites;
-mod cursor;
 mod laws;
-mod lists;
 mod numbers;
 mod reading;
 mod step_reader;

@@ -1,12 +1,12 @@
 //! Readers of numbers and places.
 ghost use Rattle.std.specs.Prelude.{IfOk};
 ghost use Rattle.std.specs.List.{list_any};
-ghost use Rattle.ev_proof.specs.Fronts.{Repeated};
-ghost use Rattle.ev_proof.specs.Steps.{Number, ReadsPlace};
-ghost use Rattle.ev_proof.specs.inner.Taking.{Took, NoNumber, never};
+ghost use Rattle.ev_parse.specs.Sequences.{Repeated, Number};
+ghost use Rattle.ev_proof.specs.Steps.{ReadsPlace};
+ghost use Rattle.ev_parse.specs.inner.Taking.{Took, NoNumber, never};
 
-use crate::cursor::Cursor;
-use crate::lists::with;
+use ev_parse::cursor::Cursor;
+use ev_parse::lists::with;
 use ev_syntax::mark_names::AT_WORD;
 use ev_terms::{NoMemory, Nums};
 use std::alloc::Global;

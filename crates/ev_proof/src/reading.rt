@@ -1,30 +1,26 @@
 //! Reading of proofs.
-ghost use Rattle.std.specs.Prelude.{◌≡◌, ◌<◌, ◌^◌, length, IfOk};
+ghost use Rattle.std.specs.Prelude.{◌≡◌, ◌<◌, ◌^◌, length, None, IfOk, if◌then◌else◌};
 ghost use Rattle.std.specs.List.{All};
-ghost use Rattle.ev_syntax.specs.Chars.{is_blank, are_blanks};
+ghost use Rattle.ev_syntax.specs.Chars.{are_blanks};
 ghost use Rattle.ev_syntax.specs.Tokens.{tokens_of};
 ghost use Rattle.ev_syntax.specs.Views.{LiesIn, all_seen_in};
 ghost use Rattle.ev_proof.specs.Lines.{IsStepLine, AreSteps};
-ghost use Rattle.ev_proof.specs.inner.Places.{StepOf};
+ghost use Rattle.ev_proof.specs.inner.StepAnswers.{StepOf};
 
-use crate::cursor::Cursor;
 use crate::step_reader::read_step;
 use crate::steps::{Step, StepLines};
 use bstr::ByteSlice;
+use ev_parse::blanks::are_blanks;
+use ev_parse::cursor::Cursor;
 use ev_syntax::{LexFault, Reader, Tokens, lex};
 use ev_terms::NoMemory;
 use std::alloc::Global;
 
-fn is_blank(byte: u8) -> bool
-    ensures { result ≡ is_blank byte }
+/// What an answer is, by whether it took all the tokens.
+fn whole_step(is_at_end: bool, step: Option<Step>) -> Option<Step>
+    ensures { result ≡ (if is_at_end then step else None) }
 {
-    (byte == b' ' || byte == b'\t') || (byte == b'\r' || byte == b'\n')
-}
-
-fn are_blanks(bytes: &[u8]) -> bool
-    ensures { result ≡ are_blanks bytes.now }
-{
-    bytes.iter().all(|byte| is_blank(*byte))
+    if is_at_end { step } else { None }
 }
 
 /// The step that the tokens are, if they are one.
@@ -33,10 +29,7 @@ fn step_of(alloc: Global, reader: &Reader<'_>) -> Result<Option<Step>, NoMemory>
 {
     let mut cursor = Cursor::new(alloc, reader)?;
     let step = read_step(&mut cursor, alloc)?;
-    if !cursor.is_at_end() {
-        return Ok(None);
-    }
-    Ok(step)
+    Ok(whole_step(cursor.is_at_end(), step))
 }
 
 fn step_in(alloc: Global, line: &[u8], tokens: &Tokens) -> Result<Option<Step>, NoMemory>

@@ -4,13 +4,13 @@ ghost use Rattle.ev_proof.specs.Steps.{ReadsStep};
 ghost use Rattle.ev_proof.specs.Depths.{step_deep};
 ghost use Rattle.ev_proof.specs.declared.words.StepWord.TheVariants.{Lone, Predicate, Cited, Placed, Weak as weak_word, AllE as alle_word, ExI as exi_word, Trans as trans_word, Axiom as axiom_word, Dis as dis_word, Rewrite as rewrite_word, Cases as cases_word, Fold as fold_word};
 ghost use Rattle.ev_proof.specs.inner.Words.{made, OfWord};
-ghost use Rattle.ev_proof.specs.inner.Taking.{Took, AtEnd, both};
+ghost use Rattle.ev_parse.specs.inner.Taking.{Took, AtEnd, both};
 
 use crate::cites::{read_cite, read_ref};
-use crate::cursor::Cursor;
 use crate::numbers::{read_numbers, read_place};
 use crate::steps::{Cite, Ref, Step};
 use crate::words::{CitedWord, LoneWord, PlacedWord, PredicateWord, StepWord, word_of};
+use ev_parse::cursor::Cursor;
 use ev_syntax::mark_names::COMMA;
 use ev_syntax::{Raw, Sort};
 use ev_terms::{Name, NoMemory, Nums};

@@ -17,10 +17,11 @@ use Rattle.ev_proof.specs.declared.words.LoneWord.TheVariants.{Hyp as hyp_word, 
 use Rattle.ev_proof.specs.declared.words.PredicateWord.TheVariants.{Cut as cut_word, Note as note_word, AndE1 as ande1_word, AndE2 as ande2_word, OrE as ore_word, ImpE as impe_word, IffE1 as iffe1_word, IffE2 as iffe2_word, ExE as exe_word}
 use Rattle.ev_proof.specs.declared.words.CitedWord.TheVariants.{Theorem as theorem_word, Assume as assume_word, Infer as infer_word}
 use Rattle.ev_proof.specs.declared.words.PlacedWord.TheVariants.{Unfold as unfold_word, Recur as recur_word, Con as con_word}
-use Rattle.ev_proof.specs.Fronts.{Nothing, Repeated}
-use Rattle.ev_proof.specs.Steps.{Word, Number, ReadsPlace, ReadsRef, ReadsCite}
-use Rattle.ev_proof.specs.Depths.{formula_deep, cite_deep}
-use Rattle.ev_proof.specs.inner.Taking.{never}
+use Rattle.ev_parse.specs.Sequences.{Nothing, Repeated, Word, Number}
+use Rattle.ev_proof.specs.Steps.{ReadsPlace, ReadsRef, ReadsCite}
+use Rattle.ev_parse.specs.Depths.{formula_deep}
+use Rattle.ev_proof.specs.Depths.{cite_deep}
+use Rattle.ev_parse.specs.inner.Taking.{never}
 use denote.Ref.{Bor}
 
 -- the bytes of each word

@@ -1,4 +1,3 @@
-use Rattle.std.proofs.Common.{refl}
 use Rattle.ev_kernel.proofs.Equations.{apart}
 use Rattle.ev_kernel.proofs.Calculated.{by_sum, by_product, by_order, by_strict_order, by_difference}
 use Rattle.ev_kernel.proofs.calculations.is_calculated.Goals as goal

@@ -1,5 +1,5 @@
 use Rattle.std.specs.Option.{option_copied}
-use Rattle.ev_kernel.specs.Contexts.{optional}
+use Rattle.ev_kernel.specs.inner.Contexts.{optional}
 use Rattle.ev_kernel.specs.Derivable.{named}
 use Rattle.ev_kernel.proofs.Equations.{apart}
 use Rattle.ev_kernel.proofs.Congruence.{congruent_nodes, other_node_symbol, other_node_types}

@@ -1,7 +1,7 @@
 use Rattle.std.proofs.Common.{get_or}
 use Rattle.std.specs.Option.{option_copied}
 use Rattle.ev_typing.specs.BaseSequents.{widened}
-use Rattle.ev_kernel.specs.Contexts.{optional}
+use Rattle.ev_kernel.specs.inner.Contexts.{optional}
 use Rattle.ev_kernel.specs.Row.{AreEquated}
 use Rattle.ev_kernel.specs.Derivable.{named}
 use Rattle.ev_kernel.proofs.Equations.{apart}

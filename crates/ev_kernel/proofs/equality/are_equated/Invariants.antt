@@ -2,7 +2,7 @@ use Rattle.std.proofs.Common.{drop}
 use Rattle.std.specs.Prelude.{◌↔◌}
 use Rattle.std.specs.Option.{option_copied}
 use Rattle.ev_typing.specs.BaseSequents.{widened}
-use Rattle.ev_kernel.specs.Contexts.{optional}
+use Rattle.ev_kernel.specs.inner.Contexts.{optional}
 use Rattle.ev_kernel.specs.Row.{AreEquated}
 use Rattle.ev_kernel.specs.Derivable.{named}
 use Rattle.ev_kernel.proofs.equality.are_equated.Given as goal

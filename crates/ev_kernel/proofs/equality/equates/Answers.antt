@@ -1,7 +1,7 @@
 use Rattle.std.specs.Option.{option_copied}
 use Rattle.ev_forms.specs.Binders.{equated}
 use Rattle.ev_typing.specs.BaseSequents.{widened}
-use Rattle.ev_kernel.specs.Contexts.{optional}
+use Rattle.ev_kernel.specs.inner.Contexts.{optional}
 use Rattle.ev_kernel.proofs.Equations.{apart}
 use Rattle.ev_kernel.proofs.Congruence.{equates_right, equates_other, equates_nothing, equates_elsewhere}
 use Rattle.ev_kernel.proofs.equality.equates.Goals as goal

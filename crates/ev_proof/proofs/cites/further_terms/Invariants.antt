@@ -3,10 +3,10 @@ use Rattle.ev_syntax.specs.Tokens.{mark}
 use Rattle.ev_syntax.specs.Grammar.{Is, ◌then◌}
 use Rattle.ev_syntax.specs.declared.sorts.Sort.TheVariants.{Expr}
 use Rattle.ev_syntax.specs.Parses.{ReadsAs}
-use Rattle.ev_proof.specs.Depths.{formula_deep}
-use Rattle.ev_proof.specs.inner.Taking.{EndsTerms}
-use Rattle.ev_proof.proofs.Takings.{left}
-use Rattle.ev_proof.proofs.Listing.{Listed}
+use Rattle.ev_parse.specs.Depths.{formula_deep}
+use Rattle.ev_proof.specs.inner.Following.{EndsTerms}
+use Rattle.ev_parse.proofs.Takings.{left}
+use Rattle.ev_parse.proofs.Listing.{Listed}
 use Rattle.ev_proof.proofs.cites.further_terms.Given as goal
 
 abbrev pub invariant-further : goal.invariant-further

@@ -1,8 +1,8 @@
 use Rattle.std.proofs.Common.{◌≤◌, suc, arith, sym, ◌∙◌}
 use Rattle.ev_syntax.specs.Marks.{comma}
 use Rattle.ev_syntax.specs.inner.TypeParser.{begins}
-use Rattle.ev_proof.proofs.Takings.{left, mark_falls, took_left, mark_took}
-use Rattle.ev_proof.proofs.Listing.{listed_none, listed_one, listed_all}
+use Rattle.ev_parse.proofs.Takings.{left, mark_falls, took_left, mark_took}
+use Rattle.ev_parse.proofs.Listing.{listed_none, listed_one, listed_all}
 use Rattle.ev_proof.proofs.Ending.{types_ties}
 use Rattle.ev_proof.proofs.cites.further_types.Goals as goal
 

@@ -2,10 +2,10 @@ use Rattle.std.specs.Prelude.{true}
 use Rattle.ev_syntax.specs.Marks.{comma}
 use Rattle.ev_syntax.specs.Tokens.{mark}
 use Rattle.ev_syntax.specs.Grammar.{Is, ◌then◌, ReadsType}
-use Rattle.ev_proof.specs.Depths.{type_deep}
-use Rattle.ev_proof.specs.inner.Taking.{EndsTypes}
-use Rattle.ev_proof.proofs.Takings.{left}
-use Rattle.ev_proof.proofs.Listing.{Listed}
+use Rattle.ev_parse.specs.Depths.{type_deep}
+use Rattle.ev_proof.specs.inner.Following.{EndsTypes}
+use Rattle.ev_parse.proofs.Takings.{left}
+use Rattle.ev_parse.proofs.Listing.{Listed}
 use Rattle.ev_proof.proofs.cites.further_types.Given as goal
 
 abbrev pub invariant-further : goal.invariant-further

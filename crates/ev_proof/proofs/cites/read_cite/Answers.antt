@@ -1,8 +1,9 @@
 use Rattle.std.proofs.Common.{refl}
 use Rattle.ev_syntax.specs.Marks.{open_bracket}
-use Rattle.ev_proof.specs.inner.Taking.{NotBefore, EndsTerms}
+use Rattle.ev_parse.specs.inner.Taking.{NotBefore}
+use Rattle.ev_proof.specs.inner.Following.{EndsTerms}
 use Rattle.ev_proof.specs.inner.Words.{made_cite}
-use Rattle.ev_proof.proofs.Takings.{took_then, took_as, took_ends}
+use Rattle.ev_parse.proofs.Takings.{took_then, took_as, took_ends}
 use Rattle.ev_proof.proofs.Ending.{at_end, before_terms}
 use Rattle.ev_proof.proofs.cites.read_cite.Goals as goal
 

@@ -1,7 +1,7 @@
 use Rattle.std.proofs.Common.{refl}
 use Rattle.ev_syntax.specs.Marks.{over_sign}
 use Rattle.ev_proof.specs.inner.Words.{made_ref}
-use Rattle.ev_proof.proofs.Takings.{took_then, mark_took, took_as}
+use Rattle.ev_parse.proofs.Takings.{took_then, mark_took, took_as}
 use Rattle.ev_proof.proofs.cites.read_ref.Goals as goal
 
 pub returns : goal.returns

@@ -2,7 +2,7 @@ use Rattle.std.proofs.Common.{refl, sym, ◌∙◌}
 use Rattle.std.proofs.lemmas.Result.{IfOk-weaker}
 use Rattle.ev_syntax.specs.Marks.{comma}
 use Rattle.ev_syntax.specs.inner.TypeParser.{begins}
-use Rattle.ev_proof.proofs.Listing.{separated_took, not_begun, begun_open}
+use Rattle.ev_parse.proofs.Listing.{separated_took, not_begun, begun_open}
 use Rattle.ev_proof.proofs.Ending.{terms_ties}
 use Rattle.ev_proof.proofs.cites.read_terms.Goals as goal
 

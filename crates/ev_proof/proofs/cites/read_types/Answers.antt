@@ -1,7 +1,7 @@
 use Rattle.std.proofs.Common.{refl, sym, ◌∙◌}
 use Rattle.ev_syntax.specs.Marks.{comma}
 use Rattle.ev_syntax.specs.inner.TypeParser.{begins}
-use Rattle.ev_proof.proofs.Listing.{separated_took, not_begun, begun}
+use Rattle.ev_parse.proofs.Listing.{separated_took, not_begun, begun}
 use Rattle.ev_proof.proofs.Ending.{types_ties}
 use Rattle.ev_proof.proofs.cites.read_types.Goals as goal
 

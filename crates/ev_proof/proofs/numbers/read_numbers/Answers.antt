@@ -1,9 +1,9 @@
 use Rattle.std.proofs.Common.{subst, sym, ◌∙◌}
 use Rattle.std.specs.Prelude.{Some}
-use Rattle.ev_proof.specs.Steps.{Number}
-use Rattle.ev_proof.specs.inner.Taking.{NoNumber, begins_number, never}
-use Rattle.ev_proof.proofs.Takings.{took_strict}
-use Rattle.ev_proof.proofs.Listing.{SoFar, first_of_all, one_further, no_further}
+use Rattle.ev_parse.specs.Sequences.{Number}
+use Rattle.ev_parse.specs.inner.Taking.{NoNumber, begins_number, never}
+use Rattle.ev_parse.proofs.Takings.{took_strict}
+use Rattle.ev_parse.proofs.Listing.{SoFar, first_of_all, one_further, no_further}
 use Rattle.ev_proof.proofs.Ending.{numbers_ties, number_shrinks}
 use Rattle.ev_proof.proofs.numbers.read_numbers.Goals as goal
 

@@ -1,7 +1,7 @@
-use Rattle.ev_proof.specs.Steps.{Number}
-use Rattle.ev_proof.specs.inner.Taking.{NoNumber, never}
-use Rattle.ev_proof.proofs.Takings.{left}
-use Rattle.ev_proof.proofs.Listing.{SoFar}
+use Rattle.ev_parse.specs.Sequences.{Number}
+use Rattle.ev_parse.specs.inner.Taking.{NoNumber, never}
+use Rattle.ev_parse.proofs.Takings.{left}
+use Rattle.ev_parse.proofs.Listing.{SoFar}
 use Rattle.ev_proof.proofs.numbers.read_numbers.Given as goal
 
 abbrev pub invariant-numbers : goal.invariant-numbers

@@ -1,8 +1,8 @@
 use Rattle.std.proofs.Common.{refl, subst, sym}
 use Rattle.ev_syntax.specs.Marks.{comma}
 use Rattle.ev_proof.specs.declared.words.StepWord.TheVariants.{AllE as alle_word}
-use Rattle.ev_proof.specs.inner.Taking.{EndsFormula}
-use Rattle.ev_proof.proofs.Takings.{took_then, mark_took, took_ends}
+use Rattle.ev_parse.specs.inner.Taking.{EndsFormula}
+use Rattle.ev_parse.proofs.Takings.{took_then, mark_took, took_ends}
 use Rattle.ev_proof.proofs.Ending.{at_end}
 use Rattle.ev_proof.proofs.WordLaws.{made_took}
 use Rattle.ev_proof.proofs.step_reader.read_all_e.Goals as goal

@@ -1,5 +1,5 @@
 use Rattle.ev_proof.specs.declared.words.StepWord.TheVariants.{Axiom as axiom_word}
-use Rattle.ev_proof.proofs.Takings.{took_then}
+use Rattle.ev_parse.proofs.Takings.{took_then}
 use Rattle.ev_proof.proofs.WordLaws.{made_took}
 use Rattle.ev_proof.proofs.step_reader.read_axiom.Goals as goal
 

@@ -1,7 +1,7 @@
 use Rattle.std.proofs.Common.{refl}
 use Rattle.ev_proof.specs.declared.words.StepWord.TheVariants.{Fold as fold_word}
-use Rattle.ev_proof.specs.inner.Taking.{NoNumber}
-use Rattle.ev_proof.proofs.Takings.{took_then}
+use Rattle.ev_parse.specs.inner.Taking.{NoNumber}
+use Rattle.ev_parse.proofs.Takings.{took_then}
 use Rattle.ev_proof.proofs.Ending.{before_cite}
 use Rattle.ev_proof.proofs.WordLaws.{made_took}
 use Rattle.ev_proof.proofs.step_reader.read_fold.Goals as goal

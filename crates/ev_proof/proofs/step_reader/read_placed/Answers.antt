@@ -1,7 +1,7 @@
 use Rattle.std.proofs.Common.{refl}
 use Rattle.ev_proof.specs.declared.words.StepWord.TheVariants.{Placed}
-use Rattle.ev_proof.specs.inner.Taking.{NoNumber}
-use Rattle.ev_proof.proofs.Takings.{took_ends}
+use Rattle.ev_parse.specs.inner.Taking.{NoNumber}
+use Rattle.ev_parse.proofs.Takings.{took_ends}
 use Rattle.ev_proof.proofs.Ending.{at_end}
 use Rattle.ev_proof.proofs.WordLaws.{made_took}
 use Rattle.ev_proof.proofs.step_reader.read_placed.Goals as goal
