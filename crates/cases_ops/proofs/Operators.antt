@@ -66,5 +66,3 @@ good_entry env sig body h k = record { signature = h; condition_good = tt; bodie
 pub good_body : (env : Env) (sig : Signature) (A : Ty) (body : Term) → Typed env (type_list sig.args) body A → A ≡ sig.result → (params body ≤ sig.params) × (depth body < 2 ^ 29) →
     IsGoodTerm env sig.params (type_list sig.args) sig.result body
 good_body env sig A body t e h = record { typed = transport (Typed env (type_list sig.args) body) e t; parameters = h.0; shallow = h.1 }
-
-pub ruleset tests = (proper_result, new_operator, short_step, short_end, first_used, none_unused, one_used, good_signature, good_entry, good_body)

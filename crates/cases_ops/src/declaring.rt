@@ -29,7 +29,7 @@ fn is_new(env: &Env, name: &Name) -> bool
 }
 
 /// Whether there are no more types than a line has.
-#[tactic(auto, using(crate::proofs::Operators::tests))]
+#[tactic(auto, using(crate::proofs::Operators::short_step, crate::proofs::Operators::short_end))]
 fn is_short(types: &Tys) -> bool
     ensures { result ≡ true → length (type_list types.now) < 2 ^ 30 }
 {
@@ -45,7 +45,7 @@ fn is_short(types: &Tys) -> bool
     true
 }
 
-#[tactic(auto, using(crate::proofs::Operators::tests))]
+#[tactic(auto, using(crate::proofs::Operators::proper_result))]
 fn is_result(env: &Env, ty: &Ty) -> bool
     ensures { result ≡ true → IsResult env.now ty.now }
 {
@@ -64,7 +64,7 @@ fn is_first_param(ty: &Ty) -> bool
     }
 }
 
-#[tactic(auto, using(crate::proofs::Operators::tests))]
+#[tactic(auto, using(crate::proofs::Operators::first_used))]
 fn begin_with_param(types: &Tys) -> bool
     ensures { result ≡ true → have_param 0 types.now ≡ true }
 {
@@ -74,7 +74,7 @@ fn begin_with_param(types: &Tys) -> bool
     }
 }
 
-#[tactic(auto, using(crate::proofs::Operators::tests))]
+#[tactic(auto, using(crate::proofs::Operators::none_unused, crate::proofs::Operators::one_used))]
 fn uses_params(signature: &Signature) -> bool
     ensures { result ≡ true → (j : ℕ) → j < signature.now.params → IsParamOf signature.now j }
 {
@@ -108,7 +108,7 @@ fn has_good_types(env: &Env, signature: &Signature) -> bool
         && is_result(env, &signature.result)
 }
 
-#[tactic(auto, using(crate::proofs::Operators::tests))]
+#[tactic(auto, using(crate::proofs::Operators::good_signature))]
 fn is_good_signature(env: &Env, signature: &Signature) -> bool
     ensures { result ≡ true → IsGoodSignature env.now signature.now }
 {
@@ -122,7 +122,7 @@ fn is_bounded(signature: &Signature, body: &Tree) -> bool
     bounds.params <= u64::from(signature.params) && bounds.depth < 1000
 }
 
-#[tactic(auto, using(crate::proofs::Operators::tests))]
+#[tactic(auto, using(crate::proofs::Operators::good_body))]
 fn is_good_body(
     alloc: Global,
     env: &Env,
@@ -137,7 +137,7 @@ fn is_good_body(
     Ok(ty.same(&signature.result) && is_bounded(signature, body))
 }
 
-#[tactic(auto, using(crate::proofs::Operators::tests))]
+#[tactic(auto, using(crate::proofs::Operators::good_entry))]
 fn is_good(alloc: Global, env: &Env, signature: &Signature, body: &Tree) -> Result<bool, NoMemory>
     ensures { IfOk result (λ b. b ≡ true → IsGoodEntry env.now (Direct signature.now None body.now)) }
 {
@@ -147,7 +147,7 @@ fn is_good(alloc: Global, env: &Env, signature: &Signature, body: &Tree) -> Resu
     is_good_body(alloc, env, signature, body)
 }
 
-#[tactic(auto, using(crate::proofs::Operators::tests))]
+#[tactic(auto, using(crate::proofs::Operators::new_operator))]
 fn declare(
     alloc: Global,
     env: &mut Env,

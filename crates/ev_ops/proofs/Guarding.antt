@@ -1,6 +1,6 @@
 -- Where a recursive operator calls itself, as the code tests it.
 use Rattle.std.proofs.Common.{◌≡◌, ◌≢◌, ℕ, zero, suc, ◌+◌, ◌-◌, ◌≤◌, ◌<◌, Bool as Boolean, true, false, Option, Some, None, List, [], ◌∷◌, ◌++◌, length, get_or, take, drop, map, reverse, ap, sym, ◌∙◌, subst, refl, arith, true≢false}
-use Rattle.std.specs.Prelude.{◌↔◌, ◌||◌, ◌&&◌, ◌==◌, not, IsTrue, slice_get, bytes_eq}
+use Rattle.std.specs.Prelude.{◌↔◌, ◌||◌, ◌&&◌, ◌==◌, not, IsTrue, IfNone, slice_get, bytes_eq}
 use Rattle.std.proofs.lemmas.List.{length-reverse, length-map, reverse-append}
 use Rattle.std.proofs.lemmas.Bool.Decides.{nat_tests}
 use Rattle.ev_terms.specs.declared.types.Ty.{Ty, Param, Data}
@@ -246,26 +246,25 @@ own_more Bs rest got A B i n q r e p g h ne f k w =
       (λ x. w.1 (g ∙ (split_more A (Param i) rest (params_from (i + 1) (n - (i + 1))) (sym s ∙ x ∙ ap (params_from i) m)).1)),
     )
 
-pub ruleset own = (own_empty, own_full, own_other, own_more)
-
 -- Lists of types.
-pub behind_empty : (Bs : Tys) (n : ℕ) → Bs ≡ Empty → type_list Bs ≡ drop (n + 1) (type_list Bs)
-behind_empty Bs n e =
-    let p : type_list Bs ≡ [] = ap type_list e in
-    p ∙ sym (ap (drop (n + 1)) p ∙ none (n + 1))
-  where
-    none : (k : ℕ) → ◌≡◌ {A = List Ty} (drop k []) []
-    none zero = refl
-    none (suc k) = refl
+drop_none : (k : ℕ) → ◌≡◌ {A = List Ty} (drop k []) []
+drop_none zero = refl
+drop_none (suc k) = refl
 
-pub behind_first : (Bs rest got : Tys) (A : Ty) (n : ℕ) → Bs ≡ More A rest → got ≡ rest → n ≡ 0 → type_list got ≡ drop (n + 1) (type_list Bs)
-behind_first Bs rest got A n e g h =
-    ap type_list g ∙ sym (ap (λ k. drop (k + 1) (type_list Bs)) h ∙ ap (drop 1) (ap type_list e ∙ type_list-More A rest))
+pub behind_step : (Bs rest got : Tys) (A : Ty) (n : ℕ) (all : List Ty) → Bs ≡ More A rest → got ≡ rest → drop (n + 1) (type_list Bs) ≡ all → drop n (type_list got) ≡ all
+behind_step Bs rest got A n all e g q =
+    let j : n + 1 ≡ suc n = omega arith in
+    ap (λ xs. drop n (type_list xs)) g ∙ sym (ap (λ i. drop i (type_list Bs)) j ∙ ap (drop (suc n)) (ap type_list e ∙ type_list-More A rest)) ∙ q
 
-pub behind_later : (Bs rest got out : Tys) (A : Ty) (n k : ℕ) → Bs ≡ More A rest → got ≡ rest → n ≢ 0 → k ≡ n - 1 → type_list out ≡ drop (k + 1) (type_list got) → type_list out ≡ drop (n + 1) (type_list Bs)
-behind_later Bs rest got out A n k e g h m w =
-    let j : n + 1 ≡ suc (k + 1) = omega arith in
-    w ∙ ap (λ xs. drop (k + 1) (type_list xs)) g ∙ sym (ap (λ i. drop i (type_list Bs)) j ∙ ap (drop (suc (k + 1))) (ap type_list e ∙ type_list-More A rest))
+pub behind_here : (got : Tys) (n : ℕ) (all : List Ty) → n ≡ 0 → drop n (type_list got) ≡ all → type_list got ≡ all
+behind_here got n all e q = sym (ap (λ i. drop i (type_list got)) e) ∙ q
+
+pub behind_next : (got : Tys) (n m : ℕ) (all : List Ty) → n ≢ 0 → m ≡ n - 1 → drop n (type_list got) ≡ all → drop (m + 1) (type_list got) ≡ all
+behind_next got n m all e f q = let j : m + 1 ≡ n = omega (arith, e, f) in ap (λ i. drop i (type_list got)) j ∙ q
+
+pub behind_end : (left : Tys) (n : ℕ) (all : List Ty) → ((A : Ty) (rest : Tys) → left ≢ More A rest) → drop (n + 1) (type_list left) ≡ all → type_list left ≡ all
+behind_end Empty n all h q = sym (drop_none (n + 1)) ∙ q
+behind_end (more A rest) n all h q = absurd (h A rest (sym (More-more A rest)))
 
 pub count_more : (Bs rest got : Tys) (A : Ty) (n m all : ℕ) → Bs ≡ More A rest → got ≡ rest → m ≡ capped (n + 1) → capped (n + length (type_list Bs)) ≡ all → capped (m + length (type_list got)) ≡ all
 count_more Bs rest got A n m all e g h q =
@@ -273,7 +272,7 @@ count_more Bs rest got A n m all e g h q =
     let b : length (type_list got) ≡ length (type_list rest) = ap (λ xs. length (type_list xs)) g in
     omega (arith, a, b, h, q)
 
-pub ruleset walked = (type_list-More, behind_empty, behind_first, behind_later, count_more)
+pub ruleset walked = (type_list-More, count_more)
 
 -- A call, and its argument.
 own_from : (sig : Signature) → params_from 0 (sig.params - 0) ≡ own_types sig.params
@@ -486,28 +485,43 @@ inst_data θ P T n m As Bs r s e g f k =
 pub no_data : (θ : ℕ → Ty) (P T : Ty) (n : Name) (As : Tys) → P ≡ Data n As → ((m : Name) (Bs : Tys) → T ≢ Data m Bs) → IsTrue false ↔ (type_inst θ P ≡ T)
 no_data θ P T n As e h = ((λ g. absurd (true≢false (sym g))), (λ g. absurd (h n (types_inst θ As) (sym g ∙ ap (type_inst θ) e))))
 
-pub insts_empty : (θ : ℕ → Ty) (Ps Ts : Tys) (r : Boolean) → Ps ≡ Empty → (IsTrue r ↔ (Ts ≡ Empty)) → IsTrue r ↔ (types_inst θ Ps ≡ Ts)
-insts_empty θ Ps Ts r e k = ((λ h. ap (types_inst θ) e ∙ sym (k.0 h)), (λ h. k.1 (sym h ∙ ap (types_inst θ) e)))
-
-pub no_insts : (θ : ℕ → Ty) (Ps Ts : Tys) (A : Ty) (As : Tys) → Ps ≡ More A As → ((B : Ty) (Bs : Tys) → Ts ≢ More B Bs) → IsTrue false ↔ (types_inst θ Ps ≡ Ts)
-no_insts θ Ps Ts A As e h =
-    ((λ g. absurd (true≢false (sym g))), (λ g. absurd (h (type_inst θ A) (types_inst θ As) (sym g ∙ ap (types_inst θ) (e ∙ More-more A As) ∙ sym (More-more (type_inst θ A) (types_inst θ As))))))
-
-pub insts_more : (θ : ℕ → Ty) (Ps Ts : Tys) (A B A' : Ty) (As Bs As' : Tys) (u r s : Boolean) → u ≡ (r && s) → Ps ≡ More A As → Ts ≡ More B Bs → A' ≡ A → As' ≡ As → (IsTrue r ↔ (type_inst θ A' ≡ B)) → (IsTrue s ↔ (types_inst θ As' ≡ Bs)) →
-    IsTrue u ↔ (types_inst θ Ps ≡ Ts)
-insts_more θ Ps Ts A B A' As Bs As' u r s z e f g i k l =
+-- Types of a list, one by one.
+pub insts_step : (θ : ℕ → Ty) (Ps Ts : Tys) (A B A' : Ty) (As Bs As' : Tys) → Ps ≡ More A As → Ts ≡ More B Bs → A' ≡ A → As' ≡ As → type_inst θ A' ≡ B →
+    (types_inst θ As' ≡ Bs) ↔ (types_inst θ Ps ≡ Ts)
+insts_step θ Ps Ts A B A' As Bs As' e f g i k =
     let p : types_inst θ Ps ≡ more (type_inst θ A') (types_inst θ As') = ap (types_inst θ) (e ∙ More-more A As ∙ ap (λ X. more X As) (sym g) ∙ ap (more A') (sym i)) in
     let q : Ts ≡ more B Bs = f ∙ More-more B Bs in (
-      (λ h. let x = split_and r s (sym z ∙ h) in p ∙ ap (λ X. more X (types_inst θ As')) (k.0 x.0) ∙ ap (more B) (l.0 x.1) ∙ sym q),
-      (λ h. let y = split_more (type_inst θ A') B (types_inst θ As') Bs (sym p ∙ h ∙ q) in z ∙ join_and r s (k.1 y.0) (l.1 y.1)),
+      (λ h. p ∙ ap (λ X. more X (types_inst θ As')) k ∙ ap (more B) h ∙ sym q),
+      (λ h. (split_more (type_inst θ A') B (types_inst θ As') Bs (sym p ∙ h ∙ q)).1),
     )
-  where
-    split_and : (a b : Boolean) → (a && b) ≡ true → (a ≡ true) × (b ≡ true)
-    split_and true b x = (refl, x)
-    split_and false b x = absurd (true≢false (sym x))
 
-    join_and : (a b : Boolean) → a ≡ true → b ≡ true → (a && b) ≡ true
-    join_and a b x y = cc
+pub insts_other : (θ : ℕ → Ty) (Ps Ts : Tys) (A B A' : Ty) (As Bs : Tys) → Ps ≡ More A As → Ts ≡ More B Bs → A' ≡ A → ¬ (type_inst θ A' ≡ B) → ¬ (types_inst θ Ps ≡ Ts)
+insts_other θ Ps Ts A B A' As Bs e f g n h =
+    let p : types_inst θ Ps ≡ more (type_inst θ A') (types_inst θ As) = ap (types_inst θ) (e ∙ More-more A As ∙ ap (λ X. more X As) (sym g)) in
+    n (split_more (type_inst θ A') B (types_inst θ As) Bs (sym p ∙ h ∙ f ∙ More-more B Bs)).0
+
+pub insts_fewer : (θ : ℕ → Ty) (Ps Ts : Tys) (A : Ty) (As : Tys) → Ps ≡ More A As → ((B : Ty) (Bs : Tys) → Ts ≢ More B Bs) → ¬ (types_inst θ Ps ≡ Ts)
+insts_fewer θ Ps Ts A As e h g =
+    h (type_inst θ A) (types_inst θ As) (sym g ∙ ap (types_inst θ) (e ∙ More-more A As) ∙ sym (More-more (type_inst θ A) (types_inst θ As)))
+
+pub insts_end : (θ : ℕ → Ty) (Ps Ts : Tys) (r : Boolean) → ((A : Ty) (As : Tys) → Ps ≢ More A As) → (IsTrue r ↔ (Ts ≡ Empty)) → IsTrue r ↔ (types_inst θ Ps ≡ Ts)
+insts_end θ Empty Ts r h k = ((λ g. sym (k.0 g)), (λ g. k.1 (sym g)))
+insts_end θ (more A As) Ts r h k = absurd (h A As (sym (More-more A As)))
+
+-- What is so where there is none.
+pub none_holds : {X P : Type 0} (o : Option X) → IfNone o P → ((x : X) → o ≢ Some x) → P
+none_holds None h n = h
+none_holds (Some x) h n = absurd (n x refl)
+
+-- An answer for what is left, and for the whole.
+pub insts_refused : (P Q : Type 0) → (P ↔ Q) → ¬ P → IsTrue false ↔ Q
+insts_refused P Q k n = ((λ h. absurd (true≢false (sym h))), (λ q. absurd (n (k.1 q))))
+
+pub insts_told : (r : Boolean) (P Q : Type 0) → (P ↔ Q) → (IsTrue r ↔ P) → IsTrue r ↔ Q
+insts_told r P Q k a = ((λ h. k.0 (a.0 h)), (λ q. a.1 (k.1 q)))
+
+pub insts_joined : (N P Q : Type 0) → (P ↔ Q) → (N ↔ P) → N ↔ Q
+insts_joined N P Q k a = ((λ h. k.0 (a.0 h)), (λ q. a.1 (k.1 q)))
 
 -- A call, where the symbol is the operator.
 pub not_named : (sig : Signature) (place : ℕ) (own : Ty) (As : Tys) (c : Con) (d : ℕ) (s : Sym) (Bs : Tys) (ts : List Term) → is_named sig.name s ≡ false → IsTrue true ↔ (is_named sig.name s ≡ true → IsSeen sig place own As c d Bs ts)
@@ -517,6 +531,6 @@ pub named : (sig : Signature) (place : ℕ) (own : Ty) (As : Tys) (c : Con) (d :
     IsTrue r ↔ (is_named sig.name s ≡ true → IsSeen sig place own As c d Bs ts)
 named sig place own As c d s Bs ts r e k = ((λ h f. k.0 h), (λ h. k.1 (h e)))
 
-pub ruleset instances = (inst_param, inst_same, inst_set, no_set, inst_pair, no_pair, inst_data, no_data, insts_empty, no_insts, insts_more)
+pub ruleset instances = (inst_param, inst_same, inst_set, no_set, inst_pair, no_pair, inst_data, no_data)
 
 pub ruleset calls_of = (not_named, named)

@@ -177,14 +177,16 @@ fn is_own_var(guard: &Guard, i: u64) -> bool
 fn behind(list: &Tys, place: u32) -> &Tys
     ensures { type_list result.now ≡ drop (place + 1) (type_list list.now) }
 {
-    match list {
-        Tys::Empty => list,
-        Tys::More(_, rest) => if place == 0 {
-            rest.get()
-        } else {
-            behind(rest.get(), place - 1)
-        },
+    let mut left = list;
+    let mut further = place;
+    while let Tys::More(_, rest) = left {
+        left = rest.get();
+        if further == 0 {
+            return left;
+        }
+        further -= 1;
     }
+    left
 }
 
 /// How many types there are, as far as the number goes.
@@ -284,16 +286,19 @@ fn is_instance(pattern: &Ty, types: &Tys, ty: &Ty) -> bool
 fn are_instances(patterns: &Tys, types: &Tys, list: &Tys) -> bool
     ensures { IsTrue result ↔ (types_inst (type_at types.now) patterns.now ≡ list.now) }
 {
-    match patterns {
-        Tys::Empty => is_empty(list),
-        Tys::More(a, rest) => match more_parts(list) {
-            Some((b, others)) => both(
-                is_instance(a.get(), types, b),
-                are_instances(rest.get(), types, others),
-            ),
-            None => false,
-        },
+    let mut left = patterns;
+    let mut others = list;
+    while let Tys::More(a, rest) = left {
+        let Some((b, further)) = more_parts(others) else {
+            return false;
+        };
+        if !is_instance(a.get(), types, b) {
+            return false;
+        }
+        left = rest.get();
+        others = further;
     }
+    is_empty(others)
 }
 
 fn both(a: bool, b: bool) -> bool

@@ -98,15 +98,18 @@ at_pair C A B A' B' bs cs ds e p q f g =
     ∙ marked_same 0 (λ j. has_param j A' || has_param j B') (λ j. has_param j C) bs
     (λ i. ap (λ X. has_param i X || has_param i B') p ∙ ap (λ X. has_param i A || has_param i X) q ∙ sym (ap (has_param i) (e ∙ Prod-prod A B)))
 
-pub at_more : (Cs : Tys) (A A' : Ty) (As As' : Tys) (bs cs ds : List Boolean) → Cs ≡ More A As → A' ≡ A → As' ≡ As → cs ≡ marked 0 (λ j. has_param j A') bs →
-    ds ≡ marked 0 (λ j. have_param j As') cs → ds ≡ marked 0 (λ j. have_param j Cs) bs
-at_more Cs A A' As As' bs cs ds e p q f g =
-    g ∙ ap (marked 0 (λ j. have_param j As')) f ∙ marked_both 0 (λ j. has_param j A') (λ j. have_param j As') bs
-    ∙ marked_same 0 (λ j. has_param j A' || have_param j As') (λ j. have_param j Cs) bs
-    (λ i. ap (λ X. has_param i X || have_param i As') p ∙ ap (λ X. has_param i A || have_param i X) q ∙ sym (ap (have_param i) (e ∙ More-more A As)))
+-- Types of a list, one by one.
+pub types_more : (left rest got : Tys) (A A' : Ty) (bs cs all : List Boolean) → left ≡ More A rest → got ≡ rest → A' ≡ A → cs ≡ marked 0 (λ j. has_param j A') bs →
+    marked 0 (λ j. have_param j left) bs ≡ all → marked 0 (λ j. have_param j got) cs ≡ all
+types_more left rest got A A' bs cs all e p q f g =
+    ap (marked 0 (λ j. have_param j got)) f ∙ marked_both 0 (λ j. has_param j A') (λ j. have_param j got) bs
+    ∙ marked_same 0 (λ j. has_param j A' || have_param j got) (λ j. have_param j left) bs
+    (λ i. ap (λ X. has_param i X || have_param i got) q ∙ ap (λ X. has_param i A || have_param i X) p ∙ sym (ap (have_param i) (e ∙ More-more A rest)))
+    ∙ g
 
-pub at_empty : (bs : List Boolean) (Cs : Tys) → Cs ≡ Empty → bs ≡ marked 0 (λ j. have_param j Cs) bs
-at_empty bs Cs e = marked_none 0 (λ j. have_param j Cs) bs (λ i. ap (have_param i) e)
+pub types_done : (bs all : List Boolean) (left : Tys) → ((A : Ty) (rest : Tys) → left ≢ More A rest) → marked 0 (λ j. have_param j left) bs ≡ all → bs ≡ all
+types_done bs all Empty e g = marked_none 0 (λ j. have_param j Empty) bs (λ i. refl) ∙ g
+types_done bs all (more A rest) e g = absurd (e A rest (sym (More-more A rest)))
 
 -- Terms.
 no_left : (a b : Boolean) → a ≡ false → b ≡ false → (a || b) ≡ false
@@ -232,4 +235,4 @@ pub ruleset read = (read_more, read_done)
 
 pub ruleset walk = (children.walk, at_bare, at_leaf, at_node, one_more, all_done)
 
-pub ruleset types = (at_none, at_set, at_pair, at_more, at_empty)
+pub ruleset types = (children.types_walk, at_none, at_set, at_pair)

@@ -119,12 +119,10 @@ fn mark_type(ty: &Ty, marks: &mut [bool])
 fn mark_types(types: &Tys, marks: &mut [bool])
     ensures { marks.new ≡ marked 0 (λ j. have_param j types.now) marks.old }
 {
-    match types {
-        Tys::Empty => {}
-        Tys::More(a, rest) => {
-            mark_type(a.get(), marks);
-            mark_types(rest.get(), marks);
-        }
+    let mut left = types;
+    while let Tys::More(a, rest) = left {
+        mark_type(a.get(), marks);
+        left = rest.get();
     }
 }
 
