@@ -5,6 +5,7 @@
 //! - `cut`: the same for each front of a text, the empty one first.
 //! - `sequent`: the name of a sequent, or `none`. `same`: whether two words are one sequent's name.
 //! - `generate`: the generated script of a number. `length`, `count`: its length, and how many events it has.
+//! - `events`: how many events a script has.
 use crate::events::{put, put_events, put_fault, put_number, put_sequent};
 use cases_lines::unescaped;
 use ev_script::{Events, generate, read_script, sequent_name};
@@ -21,6 +22,19 @@ fn put_script(text: &mut String, alloc: Global, bytes: &[u8]) -> Result<(), NoMe
 fn read_case(alloc: Global, bytes: &[u8]) -> Result<String, NoMemory> {
     let mut text = String::new(alloc);
     put_script(&mut text, alloc, bytes)?;
+    Ok(text)
+}
+
+fn put_event_count(text: &mut String, alloc: Global, bytes: &[u8]) -> Result<(), NoMemory> {
+    match read_script(alloc, bytes) {
+        Ok(events) => put_number(text, alloc, events.len() as u64),
+        Err(fault) => put_fault(text, alloc, fault),
+    }
+}
+
+fn events_case(alloc: Global, bytes: &[u8]) -> Result<String, NoMemory> {
+    let mut text = String::new(alloc);
+    put_event_count(&mut text, alloc, bytes)?;
     Ok(text)
 }
 
@@ -110,10 +124,7 @@ fn length_case(alloc: Global, number: &[u8]) -> Result<String, NoMemory> {
 fn count_case(alloc: Global, number: &[u8]) -> Result<String, NoMemory> {
     let mut text = String::new(alloc);
     if let Some(script) = generated(alloc, number)? {
-        match read_script(alloc, script.as_slice()) {
-            Ok(events) => put_number(&mut text, alloc, events.len() as u64)?,
-            Err(fault) => put_fault(&mut text, alloc, fault)?,
-        }
+        put_event_count(&mut text, alloc, script.as_slice())?;
     }
     Ok(text)
 }
@@ -122,6 +133,7 @@ fn case(alloc: Global, word: &str, bytes: &[u8]) -> Result<String, NoMemory> {
     match word {
         "read" => read_case(alloc, bytes),
         "copy" => copy_case(alloc, bytes),
+        "events" => events_case(alloc, bytes),
         "cut" => cut_case(alloc, bytes),
         "sequent" => sequent_case(alloc, bytes),
         "same" => same_case(alloc, bytes),

@@ -140,6 +140,22 @@ fn put_nested(alloc: Global, out: &mut Vec<u8>, raw: &Raw, depth: u32) -> Result
     put(out, b")")
 }
 
+fn count_of(form: &FormulaForm) -> usize {
+    match parts_of(form) {
+        Parts::One(_) => 1,
+        Parts::Two(_, _) => 2,
+        Parts::All(parts) => parts.len(),
+    }
+}
+
+/// What a tree is, and how many parts it has.
+pub(crate) fn put_counted(alloc: Global, out: &mut Vec<u8>, raw: &Raw) -> Result<(), NoMemory> {
+    let form = raw.form();
+    put_head(alloc, out, form)?;
+    put(out, b" of ")?;
+    put_number(alloc, out, count_of(form) as u128)
+}
+
 pub(crate) fn put_raw(alloc: Global, out: &mut Vec<u8>, raw: &Raw) -> Result<(), NoMemory> {
     put_nested(alloc, out, raw, DEPTH)
 }

@@ -56,6 +56,19 @@ fn put_nested(alloc: Global, out: &mut Vec<u8>, ty: &RawType, depth: u32) -> Res
     }
 }
 
+/// How many arguments a type has.
+pub(crate) fn put_type_size(
+    alloc: Global,
+    out: &mut Vec<u8>,
+    ty: &RawType,
+) -> Result<(), NoMemory> {
+    let count = match ty.form() {
+        RawTypeForm::Named(_, types) => types.len(),
+        _ => 0,
+    };
+    put_number(alloc, out, count as u128)
+}
+
 pub(crate) fn put_type(alloc: Global, out: &mut Vec<u8>, ty: &RawType) -> Result<(), NoMemory> {
     put_nested(alloc, out, ty, DEPTH)
 }

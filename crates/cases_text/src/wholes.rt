@@ -4,9 +4,9 @@ ghost use Rattle.std.specs.List.{All};
 ghost use Rattle.ev_syntax.specs.Views.{LiesIn};
 
 use crate::cases::Case;
-use crate::shown::put_raw;
+use crate::shown::{put_counted, put_raw};
 use crate::texts::{put, put_number};
-use crate::types_shown::put_type;
+use crate::types_shown::{put_type, put_type_size};
 use ev_parse::{parse_formula, parse_front};
 use ev_syntax::{LexFault, ParseFault, Raw, RawType, Tokens, lex, parse_type};
 use ev_terms::NoMemory;
@@ -23,21 +23,32 @@ fn put_fault(out: &mut Vec<u8>, fault: ParseFault) -> Result<(), NoMemory> {
 fn put_type_found(
     alloc: Global,
     out: &mut Vec<u8>,
+    counts: bool,
     found: Result<RawType, ParseFault>,
 ) -> Result<(), NoMemory> {
     match found {
+        Ok(ty) if counts => put_type_size(alloc, out, &ty),
         Ok(ty) => put_type(alloc, out, &ty),
         Err(fault) => put_fault(out, fault),
+    }
+}
+
+fn put_tree(alloc: Global, out: &mut Vec<u8>, counts: bool, raw: &Raw) -> Result<(), NoMemory> {
+    if counts {
+        put_counted(alloc, out, raw)
+    } else {
+        put_raw(alloc, out, raw)
     }
 }
 
 fn put_formula_found(
     alloc: Global,
     out: &mut Vec<u8>,
+    counts: bool,
     found: Result<Raw, ParseFault>,
 ) -> Result<(), NoMemory> {
     match found {
-        Ok(raw) => put_raw(alloc, out, &raw),
+        Ok(raw) => put_tree(alloc, out, counts, &raw),
         Err(fault) => put_fault(out, fault),
     }
 }
@@ -46,11 +57,12 @@ fn put_formula_found(
 fn put_front_found(
     alloc: Global,
     out: &mut Vec<u8>,
+    counts: bool,
     found: Result<(Raw, u32), ParseFault>,
 ) -> Result<(), NoMemory> {
     match found {
         Ok((raw, to)) => {
-            put_raw(alloc, out, &raw)?;
+            put_tree(alloc, out, counts, &raw)?;
             put(out, b" to ")?;
             put_number(alloc, out, u128::from(to))
         }
@@ -71,7 +83,7 @@ fn put_front(
         return put(out, b"no place");
     }
     let found = parse_front(alloc, text, tokens, case.from, case.sort, case.limit);
-    put_front_found(alloc, out, found)
+    put_front_found(alloc, out, case.counts, found)
 }
 
 /// What is told of the tokens, by the call.
@@ -85,10 +97,13 @@ fn put_call(
     requires { All (LiesIn text.now) tokens.now }
 {
     match case.call {
-        "parse_type" => put_type_found(alloc, out, parse_type(alloc, text, tokens, case.limit)),
+        "parse_type" => {
+            let found = parse_type(alloc, text, tokens, case.limit);
+            put_type_found(alloc, out, case.counts, found)
+        }
         "parse_formula" => {
             let found = parse_formula(alloc, text, tokens, case.sort, case.limit);
-            put_formula_found(alloc, out, found)
+            put_formula_found(alloc, out, case.counts, found)
         }
         _ => put_front(alloc, out, case, text, tokens),
     }

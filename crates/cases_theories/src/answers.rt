@@ -3,10 +3,14 @@
 //! - `cut`: the parts of a theory text, `|` before each.
 //! - `read`: the elements of a theory text, `;` behind each. `element`, `front`: what one part is, the second before the first keyword.
 //! - `imports`: the names that a theory text imports.
+//! - `size`: what one part is, with how many parameters, constructors, arguments, cases, variables, branches or givens it has.
+//! - `count`: how many elements a theory text has, and how many names it imports.
 //! - `reach NAME`, `reach NAME DEPLOYED`: the numbers that a number reaches in a graph, where all or those with a `1` are deployed.
 //! - `cycle NAME IMPORTS`: the walk of imports from a number to itself, with these imports in place of its own.
 use crate::graphs::{cycle_case, reach_case};
-use crate::theories::{cut_case, element_case, front_case, imports_case, read_case};
+use crate::theories::{
+    count_case, cut_case, element_case, front_case, imports_case, read_case, size_case,
+};
 use cases_lines::unescaped;
 use ev_terms::NoMemory;
 use std::alloc::Global;
@@ -18,6 +22,8 @@ fn text_case(alloc: Global, word: &str, text: &[u8]) -> Result<Vec<u8>, NoMemory
         "element" => element_case(alloc, text),
         "front" => front_case(alloc, text),
         "imports" => imports_case(alloc, text),
+        "size" => size_case(alloc, text),
+        "count" => count_case(alloc, text),
         _ => Ok(b"no case".as_slice().to_vec(alloc)?),
     }
 }

@@ -6,6 +6,7 @@ mod answers;
 mod elements;
 mod graphs;
 mod parts;
+mod sizes;
 mod theories;
 
 use answers::answer;

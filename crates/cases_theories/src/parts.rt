@@ -13,7 +13,7 @@ fn put_mark(line: &mut Vec<u8>, mark: u16) -> Result<(), NoMemory> {
     put(line, all_spellings().get(mark).unwrap_or(b"no mark"))
 }
 
-fn put_number(line: &mut Vec<u8>, alloc: Global, number: u128) -> Result<(), NoMemory> {
+pub fn put_number(line: &mut Vec<u8>, alloc: Global, number: u128) -> Result<(), NoMemory> {
     let digits = format!(in alloc; "{number}")?;
     put(line, digits.as_bytes())
 }

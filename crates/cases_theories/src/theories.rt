@@ -1,5 +1,7 @@
 //! Cases of theory texts.
 use crate::elements::{put, put_element};
+use crate::parts::put_number;
+use crate::sizes::put_size;
 use ev_terms::NoMemory;
 use ev_theory_text::{
     RawElement, RawElements, cut, import_names, read_element, read_front, read_theory,
@@ -76,5 +78,30 @@ pub fn imports_case(alloc: Global, text: &[u8]) -> Result<Vec<u8>, NoMemory> {
         }
         put(&mut line, name.as_slice())?;
     }
+    Ok(line)
+}
+
+/// What one part of a text is, and how many parts it has.
+pub fn size_case(alloc: Global, text: &[u8]) -> Result<Vec<u8>, NoMemory> {
+    if text.len() > u32::MAX as usize {
+        return Ok(TOO_LONG.as_bytes().to_vec(alloc)?);
+    }
+    let element = read_element(alloc, text)?;
+    let mut line = Vec::new(alloc);
+    put_size(&mut line, alloc, &element)?;
+    Ok(line)
+}
+
+/// How many elements a text has, and how many names it imports.
+pub fn count_case(alloc: Global, text: &[u8]) -> Result<Vec<u8>, NoMemory> {
+    if text.len() > u32::MAX as usize {
+        return Ok(TOO_LONG.as_bytes().to_vec(alloc)?);
+    }
+    let elements = read_theory(alloc, text)?;
+    let names = import_names(alloc, &elements)?;
+    let mut line = Vec::new(alloc);
+    put_number(&mut line, alloc, elements.len() as u128)?;
+    put(&mut line, b" ")?;
+    put_number(&mut line, alloc, names.len() as u128)?;
     Ok(line)
 }
