@@ -10,8 +10,7 @@ use crate::case::{Case, read_case};
 use crate::equations::by_equations;
 use crate::premises::{Premises, premises_of};
 use cases_notation::fault::Fault;
-use ev_congruence::congruence_of;
-use ev_kernel::Lines;
+use ev_congruence::{Derivation, congruence_of};
 use ev_terms::{NoMemory, Tree, TryCopy, Tys, extent, trees_extent};
 use ev_typing::{Env, Sequent, is_plain, type_of};
 use std::alloc::Global;
@@ -75,7 +74,11 @@ fn is_typed(
 }
 
 /// The number of the line by congruence; none where the case is not such as congruence asks.
-fn by_congruence(alloc: Global, case: &Case, lines: &mut Lines) -> Result<Option<u128>, NoMemory>
+fn by_congruence(
+    alloc: Global,
+    case: &Case,
+    lines: &mut Derivation,
+) -> Result<Option<u128>, NoMemory>
     requires { lines.old ≡ [] }
 {
     let env = Env::new(alloc);
@@ -108,7 +111,7 @@ fn by_congruence(alloc: Global, case: &Case, lines: &mut Lines) -> Result<Option
 }
 
 /// The number of the line that the call answers; none where the fields are no case, or not such as the call asks.
-pub fn derive(alloc: Global, fields: &[&str], lines: &mut Lines) -> Result<Option<u128>, Fault>
+pub fn derive(alloc: Global, fields: &[&str], lines: &mut Derivation) -> Result<Option<u128>, Fault>
     requires { lines.old ≡ [] }
 {
     match fields {

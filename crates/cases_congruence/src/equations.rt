@@ -3,8 +3,7 @@ ghost use Rattle.ev_kernel.specs.Derivable.{IsDerivation};
 
 use crate::case::Case;
 use crate::premises::premise;
-use ev_congruence::{Equation, symmetry};
-use ev_kernel::Lines;
+use ev_congruence::{Derivation, Equation, symmetry};
 use ev_terms::NoMemory;
 use ev_typing::{Env, Sequent};
 use std::alloc::Global;
@@ -13,7 +12,7 @@ use std::alloc::Global;
 fn exchanged(
     alloc: Global,
     env: &Env,
-    lines: &mut Lines,
+    lines: &mut Derivation,
     at: &Sequent,
     sides: &Equation,
 ) -> Result<Option<u128>, NoMemory>
@@ -30,7 +29,7 @@ pub fn by_equations(
     alloc: Global,
     call: &str,
     case: &Case,
-    lines: &mut Lines,
+    lines: &mut Derivation,
 ) -> Result<Option<u128>, NoMemory>
     requires { lines.old ≡ [] }
 {

@@ -1,7 +1,8 @@
 ghost use Rattle.std.specs.Prelude.{◌≤◌, IsTrue, length};
 ghost use Rattle.std.specs.List.{AllByRecursion};
 
-use ev_kernel::{Line, Lines, infers};
+use ev_congruence::Derivation;
+use ev_kernel::{Line, infers};
 use ev_terms::{NoMemory, Tree, TryCopy};
 use ev_typing::{Env, Sequents};
 use std::alloc::Global;
@@ -29,7 +30,7 @@ fn follows(alloc: Global, earlier: &Sequents, line: &Line) -> Result<bool, NoMem
 }
 
 /// The number of the first line that does not follow from earlier ones.
-pub fn failing(alloc: Global, lines: &Lines) -> Result<Option<usize>, NoMemory> {
+pub fn failing(alloc: Global, lines: &Derivation) -> Result<Option<usize>, NoMemory> {
     let mut earlier = Sequents::new(alloc);
     for line in lines.as_slice() {
         let follows = follows(alloc, &earlier, line)?;
@@ -42,11 +43,11 @@ pub fn failing(alloc: Global, lines: &Lines) -> Result<Option<usize>, NoMemory> 
 }
 
 /// The goal of the line with a number.
-pub fn goal_of(lines: &Lines, number: u128) -> Option<&Tree> {
+pub fn goal_of(lines: &Derivation, number: u128) -> Option<&Tree> {
     if number == 0 || number > lines.len() as u128 {
         return None;
     }
-    match lines.get((number - 1) as usize) {
+    match lines.as_slice().get((number - 1) as usize) {
         Some(line) => Some(&line.sequent.goal),
         None => None,
     }

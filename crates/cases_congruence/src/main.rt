@@ -17,14 +17,14 @@ use cases_notation::text::Text;
 use cases_notation::words::fields_of;
 use cases_notation::writing::write_tree;
 use congruences::derive;
-use ev_kernel::Lines;
+use ev_congruence::Derivation;
 use following::{failing, goal_of};
 use std::alloc::Global;
 use std::io;
 
 fn answer(alloc: Global, line: &str) -> Result<String, Fault> {
     let fields = fields_of(alloc, line)?;
-    let mut lines = Lines::new(alloc);
+    let mut lines = Derivation::new(alloc);
     let Some(number) = derive(alloc, fields.as_slice(), &mut lines)? else {
         return Err(Fault::NoCase);
     };

@@ -6,8 +6,8 @@ ghost use Rattle.ev_kernel.specs.Derivable.{IsDerivation};
 ghost use Rattle.ev_congruence.specs.Growing.{concluded, Extends};
 ghost use Rattle.ev_congruence.specs.Equating.{AreEquatedAt};
 
-use ev_congruence::{Equation, equated_beside, from_none};
-use ev_kernel::{BaseRule, Lines, concludes};
+use ev_congruence::{Derivation, Equation, equated_beside, from_none};
+use ev_kernel::{BaseRule, concludes};
 use ev_terms::{NoMemory, Nums, Trees, TryCopy, Tys};
 use ev_typing::{Env, Sequent, is_base_sequent};
 use std::alloc::Global;
@@ -25,7 +25,7 @@ pub struct Premises {
 pub fn premise(
     alloc: Global,
     env: &Env,
-    lines: &mut Lines,
+    lines: &mut Derivation,
     at: &Sequent,
     sides: &Equation,
 ) -> Result<Option<u128>, NoMemory>
@@ -78,7 +78,7 @@ fn with_sides(
 fn with_all(
     alloc: Global,
     env: &Env,
-    lines: &mut Lines,
+    lines: &mut Derivation,
     at: &Sequent,
     premises: Premises,
     equations: &[Equation],
@@ -104,7 +104,7 @@ fn with_all(
 pub fn premises_of(
     alloc: Global,
     env: &Env,
-    lines: &mut Lines,
+    lines: &mut Derivation,
     at: &Sequent,
     equations: &[Equation],
 ) -> Result<Option<Premises>, NoMemory>

@@ -161,3 +161,30 @@ alike_both env C ls rs ls' rs' e f h = transport (λ u. AreAllAlike env C u rs')
 
 pub inner_inside_by : (env : Env) (S T I : Sequent) (k n : ℕ) (s : Sym) (As : Tys) (G : Term) → IsIndex S T k → I ≡ (at_children T s As ⊢ G) → HasGoodTypes env s As → n ≡ binds s → IsIndex S I (k + n)
 inner_inside_by env S T I k n s As G i e h q = transport (λ m. IsIndex S I (k + m)) (sym q) (inner_inside env S T I k s As G i e h)
+
+-- the types of a list of typed terms, one by one
+pub typed_lengths : (env : Env) (C : List Ty) (ts : List Term) (Ts : List Ty) → AreTyped env C (terms ts) Ts → length Ts ≡ length ts
+typed_lengths env C [] [] h = refl
+typed_lengths env C [] (T ∷ Ts) h = absurd h
+typed_lengths env C (t ∷ ts) [] h = absurd h
+typed_lengths env C (t ∷ ts) (T ∷ Ts) h = ap suc (typed_lengths env C ts Ts h.1)
+
+pub typed_at : (env : Env) (C : List Ty) (ts : List Term) (Ts : List Ty) (i : ℕ) (t : Term) (T : Ty) → AreTyped env C (terms ts) Ts → t ≡ get_or ts i t → T ≡ get_or Ts i T → i < length ts → Typed env C t T
+typed_at env C [] Ts i t T h e f k = absurd (omega arith)
+typed_at env C (u ∷ ts) [] i t T h e f k = absurd h
+typed_at env C (u ∷ ts) (U ∷ Ts) zero t T h e f k = transport (λ v. Typed env C v T) (sym e) (transport (Typed env C u) (sym f) h.0)
+typed_at env C (u ∷ ts) (U ∷ Ts) (suc i) t T h e f k = typed_at env C ts Ts i t T h.1 e f (omega arith)
+
+-- what a typed symbol's signature says of its children and of its own type
+pub has_signature : (env : Env) (C : List Ty) (s : Sym) (As : Tys) (ts : Terms) (A : Ty) → Typed env C (node s As ts) A → (p : Profile) × (profile env s ≡ Some p)
+has_signature env C s As ts A h = some_out (profile env s) (λ p e g. (p, e)) h
+
+pub signature_types : (env : Env) (C : List Ty) (s : Sym) (As : Tys) (ts : List Term) (A T : Ty) (Ts : List Ty) → Typed env C (node s As (terms ts)) A →
+    ((p : Profile) → profile env s ≡ Some p → (Ts ≡ map (type_inst (type_at As)) p.args) × (T ≡ type_inst (type_at As) p.result)) →
+    Typed env C (node s As (terms ts)) T × AreTyped env (inside C s As) (terms ts) Ts
+signature_types env C s As ts A T Ts h f =
+    some_out (profile env s) (λ p e g.
+    let q = f p e in (
+      transport (Typed env C (node s As (terms ts))) (g.result ∙ sym q.1) h,
+      transport (AreTyped env (inside C s As) (terms ts)) (sym q.0) g.children,
+    )) h

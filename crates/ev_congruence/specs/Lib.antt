@@ -1,4 +1,5 @@
 pub mod Growing
+pub mod Limits
 pub mod Settings
 pub mod Equating
 pub mod inner

@@ -4,22 +4,25 @@ ghost use Rattle.ev_terms.specs.Types.{type_list};
 ghost use Rattle.ev_terms.specs.Term.{terms, node};
 ghost use Rattle.ev_terms.specs.Measures.{highest, all_highest, loose, depths};
 ghost use Rattle.ev_terms.specs.Symbols.{binds};
-ghost use Rattle.ev_terms.specs.Substitution.{shift, shifts, fill, instance};
+ghost use Rattle.ev_terms.specs.Substitution.{shift, shifts, fill, instance, type_inst, type_at};
 ghost use Rattle.ev_forms.specs.Forms.{equation, vars_above};
 ghost use Rattle.ev_typing.specs.declared.typing.Sequent.{Sequent};
+ghost use Rattle.ev_typing.specs.Profiles.{Profile};
+ghost use Rattle.ev_typing.specs.Env.{profile};
 ghost use Rattle.ev_typing.specs.Sequents.{◌⊢◌};
 ghost use Rattle.ev_typing.specs.Typing.{Typed};
 ghost use Rattle.ev_kernel.specs.Row.{at_children};
 ghost use Rattle.ev_kernel.specs.Derivable.{numbered};
 ghost use Rattle.ev_congruence.specs.Growing.{concluded};
 
+use crate::known::Derivation;
 use ev_forms::{Connective, Relation, make_joined, make_related};
-use ev_kernel::{Line, Lines};
+use ev_kernel::Line;
 use ev_terms::{
-    NoMemory, Sym, Tree, Trees, TryCopy, Ty, Tys, binds, instantiate_types, make_var, shift,
-    substitute,
+    ListOf, NoMemory, Sym, Tree, Trees, TryCopy, Ty, Tys, binds, instantiate_type,
+    instantiate_types, make_var, shift, substitute,
 };
-use ev_typing::{Env, Sequent, type_of};
+use ev_typing::{Env, Sequent, type_of, types_of_symbol};
 use std::alloc::Global;
 
 /// `<=>` between predicates, `=` between terms of another type.
@@ -142,8 +145,45 @@ pub(crate) fn type_of_typed(
     }
 }
 
+/// The types of a symbol's children and its own, its type arguments put in.
+#[derive(Drop)]
+pub(crate) struct NodeTypes {
+    pub args: ListOf<Ty>,
+    pub result: Ty,
+}
+
+/// The types of a symbol that the environment has. Linear in the symbol's signature.
+pub(crate) fn types_of_node(
+    alloc: Global,
+    env: &Env,
+    sym: &Sym,
+    types: &Tys,
+) -> Result<NodeTypes, NoMemory>
+    requires { (p : Profile) × (profile env.now sym.now ≡ Some p) }
+    ensures { IfOk result (λ t. (p : Profile) → profile env.now sym.now ≡ Some p → (t.args ≡ map (type_inst (type_at types.now)) p.args) × (t.result ≡ type_inst (type_at types.now) p.result)) }
+{
+    match types_of_symbol(alloc, env, sym)? {
+        Some(signature) => {
+            let args = types_at(alloc, signature.args.as_slice(), types)?;
+            let result = instantiate_type(alloc, &signature.result, types)?;
+            Ok(NodeTypes { args, result })
+        }
+        None => unreachable!(),
+    }
+}
+
+fn types_at(alloc: Global, list: &[Ty], types: &Tys) -> Result<ListOf<Ty>, NoMemory>
+    ensures { IfOk result (λ all. all ≡ map (type_inst (type_at types.now)) list.now) }
+{
+    let mut all = ListOf::new(alloc);
+    for ty in list {
+        all.push(alloc, instantiate_type(alloc, ty, types)?)?;
+    }
+    Ok(all)
+}
+
 /// The line with a number, from 1.
-fn line_at(lines: &Lines, number: u128) -> &Line
+fn numbered_line(lines: &Derivation, number: u128) -> &Line
     requires first { 1 ≤ number }
     requires last { number ≤ length lines.now }
     ensures { numbered lines.now number ≡ Some result.now }
@@ -152,11 +192,11 @@ fn line_at(lines: &Lines, number: u128) -> &Line
 }
 
 /// The sequent of a line.
-pub(crate) fn sequent_of(lines: &Lines, number: u128) -> &Sequent
+pub(crate) fn sequent_of(lines: &Derivation, number: u128) -> &Sequent
     requires { (S : Sequent) × (concluded lines.now number ≡ Some S) }
     ensures { concluded lines.now number ≡ Some result.now }
 {
-    &line_at(lines, number).sequent
+    &numbered_line(lines, number).sequent
 }
 
 /// The term with types put for its type parameters and arguments for its variables, that of the outermost first.

@@ -3,11 +3,14 @@
 
 pub mod adding;
 mod forming;
+pub mod known;
+mod marks;
 pub mod moves;
 pub mod walking;
 
-pub use adding::{added_lines, from_lines, from_none, from_one, from_two};
+pub use adding::{added_lines, from_lines, from_none, from_one, from_two, limits_of_lines};
 pub use forming::{equated_beside, filled, make_equation, with_goal};
+pub use known::Derivation;
 pub use moves::{
     Equation, instantiated, lengthened, modus_ponens, reflexivity, symmetry, transitivity, weakened,
 };

@@ -1,5 +1,5 @@
 //! Lines by rules that are derived from the base rules, or are these with their sequents made.
-ghost use Rattle.std.specs.Prelude.{◌≡◌, ◌≤◌, ◌+◌, ◌^◌, ◌++◌, Some, None, [], List, Contains, length, map, IfOk};
+ghost use Rattle.std.specs.Prelude.{◌≡◌, ◌≤◌, ◌+◌, ◌^◌, ◌++◌, Some, None, [], ◌∷◌, List, Contains, length, map, IfOk};
 ghost use Rattle.std.specs.List.{AllByRecursion};
 ghost use Rattle.ev_terms.specs.declared.types.Ty.{Ty};
 ghost use Rattle.ev_terms.specs.Types.{type_list};
@@ -11,15 +11,17 @@ ghost use Rattle.ev_typing.specs.Typing.{IsPredicate, AreProper, Typed};
 ghost use Rattle.ev_typing.specs.TypeLists.{types};
 ghost use Rattle.ev_typing.specs.Occurs.{IsPlain, ArePlain};
 ghost use Rattle.ev_typing.specs.BaseSequents.{IsBaseSequent, widened};
-ghost use Rattle.ev_forms.specs.Forms.{equation, imp};
+ghost use Rattle.ev_forms.specs.Forms.{equation, imp, vars_above};
 ghost use Rattle.ev_kernel.specs.Derivable.{IsDerivation};
 ghost use Rattle.ev_congruence.specs.Growing.{concluded, Extends};
+ghost use Rattle.ev_congruence.specs.Limits.{Keep};
 ghost use Rattle.ev_congruence.specs.Settings.{IsBaseContext};
 ghost use Rattle.ev_congruence.specs.Equating.{IsInstantiable};
 
 use crate::adding::{from_none, from_one, from_two};
 use crate::forming::{equated_beside, filled, sequent_of, variables_above, with_goal};
-use ev_kernel::{BaseRule, Lines};
+use crate::known::Derivation;
+use ev_kernel::BaseRule;
 use ev_terms::{NoMemory, Tree, Trees, TryCopy, Ty, Tys};
 use ev_typing::{Env, Sequent};
 use std::alloc::Global;
@@ -36,7 +38,7 @@ pub struct Equation {
 pub fn reflexivity(
     alloc: Global,
     env: &Env,
-    lines: &mut Lines,
+    lines: &mut Derivation,
     at: &Sequent,
     ty: &Ty,
     term: &Tree,
@@ -47,6 +49,7 @@ pub fn reflexivity(
     requires plain { IsPlain env.now term.now }
     ensures concludes { IfOk result (λ n. concluded lines.new n ≡ Some (at.now ⊢ equation ty.now term.now term.now)) }
     ensures extends { Extends env.now lines.old lines.new }
+    ensures limits { Keep lines.old lines.new ((at.now ⊢ equation ty.now term.now term.now) ∷ []) [] [] }
 {
     let _opened = env.count();
     let sequent = equated_beside(alloc, at, ty, term, term)?;
@@ -57,7 +60,7 @@ pub fn reflexivity(
 pub fn symmetry(
     alloc: Global,
     env: &Env,
-    lines: &mut Lines,
+    lines: &mut Derivation,
     at: &Sequent,
     sides: &Equation,
     premise: u128,
@@ -66,6 +69,7 @@ pub fn symmetry(
     requires premise { concluded lines.old premise ≡ Some (at.now ⊢ equation sides.now.ty sides.now.left sides.now.right) }
     ensures concludes { IfOk result (λ n. concluded lines.new n ≡ Some (at.now ⊢ equation sides.now.ty sides.now.right sides.now.left)) }
     ensures extends { Extends env.now lines.old lines.new }
+    ensures limits { Keep lines.old lines.new ((at.now ⊢ equation sides.now.ty sides.now.right sides.now.left) ∷ []) [] [] }
 {
     let sequent = equated_beside(alloc, at, &sides.ty, &sides.right, &sides.left)?;
     from_one(alloc, env, lines, sequent, BaseRule::Sym, premise)
@@ -75,7 +79,7 @@ pub fn symmetry(
 pub fn transitivity(
     alloc: Global,
     env: &Env,
-    lines: &mut Lines,
+    lines: &mut Derivation,
     at: &Sequent,
     sides: &Equation,
     first: u128,
@@ -85,6 +89,7 @@ pub fn transitivity(
     requires premises { (m : Term) × (concluded lines.old first ≡ Some (at.now ⊢ equation sides.now.ty sides.now.left m)) × (concluded lines.old second ≡ Some (at.now ⊢ equation sides.now.ty m sides.now.right)) }
     ensures concludes { IfOk result (λ n. concluded lines.new n ≡ Some (at.now ⊢ equation sides.now.ty sides.now.left sides.now.right)) }
     ensures extends { Extends env.now lines.old lines.new }
+    ensures limits { Keep lines.old lines.new ((at.now ⊢ equation sides.now.ty sides.now.left sides.now.right) ∷ []) [] [] }
 {
     let sequent = equated_beside(alloc, at, &sides.ty, &sides.left, &sides.right)?;
     from_two(alloc, env, lines, sequent, BaseRule::Trans, first, second)
@@ -94,7 +99,7 @@ pub fn transitivity(
 pub fn modus_ponens(
     alloc: Global,
     env: &Env,
-    lines: &mut Lines,
+    lines: &mut Derivation,
     at: &Sequent,
     goal: &Tree,
     implication: u128,
@@ -104,6 +109,7 @@ pub fn modus_ponens(
     requires premises { (P : Term) × (concluded lines.old implication ≡ Some (at.now ⊢ imp P goal.now)) × (concluded lines.old premise ≡ Some (at.now ⊢ P)) }
     ensures concludes { IfOk result (λ n. concluded lines.new n ≡ Some (at.now ⊢ goal.now)) }
     ensures extends { Extends env.now lines.old lines.new }
+    ensures limits { Keep lines.old lines.new ((at.now ⊢ goal.now) ∷ []) [] [] }
 {
     let sequent = with_goal(alloc, at, goal.try_copy(alloc)?)?;
     let rule = BaseRule::ImpE;
@@ -114,7 +120,7 @@ pub fn modus_ponens(
 pub fn weakened(
     alloc: Global,
     env: &Env,
-    lines: &mut Lines,
+    lines: &mut Derivation,
     at: &Sequent,
     hyps: &Trees,
     premise: u128,
@@ -126,6 +132,7 @@ pub fn weakened(
     requires plain { AllByRecursion (IsPlain env.now) hyps.now }
     ensures concludes { IfOk result (λ n. concluded lines.new n ≡ Some (record { context = at.now.context; hyps = hyps.now; goal = at.now.goal })) }
     ensures extends { Extends env.now lines.old lines.new }
+    ensures limits { Keep lines.old lines.new ((record { context = at.now.context; hyps = hyps.now; goal = at.now.goal }) ∷ []) [] [] }
 {
     let sequent = Sequent {
         context: at.context.try_copy(alloc)?,
@@ -139,7 +146,7 @@ pub fn weakened(
 pub fn lengthened(
     alloc: Global,
     env: &Env,
-    lines: &mut Lines,
+    lines: &mut Derivation,
     outer: u32,
     count: u32,
     sequent: Sequent,
@@ -151,6 +158,7 @@ pub fn lengthened(
     requires widened { (S : Sequent) × (Bs : List Ty) × (concluded lines.old premise ≡ Some S) × (length (type_list S.context) ≡ outer) × (length Bs ≡ count) × (sequent ≡ widened S Bs) }
     ensures concludes { IfOk result (λ n. concluded lines.new n ≡ Some sequent) }
     ensures extends { Extends env.now lines.old lines.new }
+    ensures limits { Keep lines.old lines.new (sequent ∷ []) (vars_above outer count) [] }
 {
     let terms = variables_above(alloc, outer, count)?;
     from_one(
@@ -168,7 +176,7 @@ pub fn lengthened(
 pub fn instantiated(
     alloc: Global,
     env: &Env,
-    lines: &mut Lines,
+    lines: &mut Derivation,
     context: &Tys,
     types: &Tys,
     terms: &Trees,
@@ -181,6 +189,7 @@ pub fn instantiated(
     requires premise { (S : Sequent) × IsInstantiable env.now lines.old S context.now types.now terms.now premise }
     ensures concludes { IfOk result (λ n. (S : Sequent) → concluded lines.old premise ≡ Some S → concluded lines.new n ≡ Some (record { context = context.now; hyps = []; goal = fill (instance S.goal types.now) terms.now })) }
     ensures extends { Extends env.now lines.old lines.new }
+    ensures limits { (S : Sequent) → concluded lines.old premise ≡ Some S → Keep lines.old lines.new ((record { context = context.now; hyps = []; goal = fill (instance S.goal types.now) terms.now }) ∷ []) terms.now (type_list types.now) }
 {
     let _opened = env.count();
     let found = sequent_of(lines, premise);

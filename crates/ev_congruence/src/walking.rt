@@ -1,5 +1,5 @@
 //! Congruence: a body with equal terms put for its variables gives equal terms.
-ghost use Rattle.std.specs.Prelude.{List, ◌≡◌, ◌≤◌, ◌<◌, ◌+◌, ◌^◌, ◌↔◌, Some, None, map, length, slice_set, IfOk, IsTrue};
+ghost use Rattle.std.specs.Prelude.{List, [], ◌∷◌, ◌≡◌, ◌≤◌, ◌<◌, ◌+◌, ◌^◌, ◌↔◌, Some, None, map, length, slice_set, IfOk, IsTrue};
 ghost use Rattle.std.specs.List.{AllByRecursion};
 ghost use Rattle.ev_terms.specs.declared.types.Ty.{Ty};
 ghost use Rattle.ev_terms.specs.Types.{type_list};
@@ -8,22 +8,24 @@ ghost use Rattle.ev_terms.specs.Measures.{depth, depths, loose, highest};
 ghost use Rattle.ev_terms.specs.Substitution.{shift, fill, entry};
 ghost use Rattle.ev_typing.specs.declared.typing.Sequent.{Sequent};
 ghost use Rattle.ev_typing.specs.Sequents.{◌⊢◌};
-ghost use Rattle.ev_typing.specs.Typing.{Typed};
+ghost use Rattle.ev_typing.specs.Typing.{Typed, AreTyped};
 ghost use Rattle.ev_typing.specs.Occurs.{IsPlain};
 ghost use Rattle.ev_kernel.specs.Row.{at_children};
 ghost use Rattle.ev_kernel.specs.Derivable.{IsDerivation};
 ghost use Rattle.ev_congruence.specs.Growing.{Extends};
+ghost use Rattle.ev_congruence.specs.Limits.{KeepBetween};
 ghost use Rattle.ev_congruence.specs.Settings.{IsBaseContext, AreAlike, FilledAreAlike};
 ghost use Rattle.ev_congruence.specs.Equating.{Equates, AreEquatedBy, IsSettled, AreSettled, AreReady, AreSettledFor, IsCongruence};
 ghost use Rattle.ev_congruence.specs.inner.Inside.{IsIndex, IsSettledOutside, put, AreAllAlike, IsByCongruence};
 
 use crate::adding::from_lines;
-use crate::forming::{at_children, equated_beside, sequent_of, type_of_typed};
+use crate::forming::{at_children, equated_beside, sequent_of, type_of_typed, types_of_node};
+use crate::known::Derivation;
 use crate::moves::{lengthened, reflexivity};
 use ev_forms::node_parts;
-use ev_kernel::{BaseRule, Lines};
+use ev_kernel::BaseRule;
 use ev_terms::{
-    ListOf, NoMemory, Nums, Sym, Tree, Trees, TryCopy, Tys, binds, loose, make_node, make_var,
+    ListOf, NoMemory, Nums, Sym, Tree, Trees, TryCopy, Ty, Tys, binds, loose, make_node, make_var,
     shift,
 };
 use ev_typing::{Env, Sequent};
@@ -79,13 +81,14 @@ pub fn congruence_of(
     left: &Trees,
     right: &Trees,
     premises: &Nums,
-    lines: &mut Lines,
+    lines: &mut Derivation,
 ) -> Result<u128, NoMemory>
     requires derivation { IsDerivation env.now lines.old }
     requires some { 0 < length premises.now }
     requires ready { (S : Sequent) × AreReady env.now lines.old S body.now left.now right.now premises.now }
     ensures line { IfOk result (λ n. IsCongruence env.now lines.old lines.new body.now left.now right.now premises.now n) }
     ensures extends { Extends env.now lines.old lines.new }
+    ensures limits { (S : Sequent) → AreEquatedBy lines.old S left.now right.now premises.now → KeepBetween env.now lines.old lines.new S ((fill body.now left.now) ∷ []) ((fill body.now right.now) ∷ []) }
 {
     let premises = premises.as_slice();
     let at = sequent_of(lines, premises[0]).try_copy(alloc)?;
@@ -102,7 +105,7 @@ pub fn congruence_of(
 pub fn congruence_beside(
     alloc: Global,
     env: &Env,
-    lines: &mut Lines,
+    lines: &mut Derivation,
     body: &Tree,
     pairs: &Pairs,
 ) -> Result<u128, NoMemory>
@@ -111,6 +114,7 @@ pub fn congruence_beside(
     requires ready { AreSettledFor env.now lines.old pairs.now.at body.now pairs.now.lefts pairs.now.rights pairs.now.found }
     ensures line { IfOk result (λ n. Equates lines.new pairs.now.at (fill body.now pairs.now.lefts) (fill body.now pairs.now.rights) n) }
     ensures extends { Extends env.now lines.old lines.new }
+    ensures limits { KeepBetween env.now lines.old lines.new pairs.now.at (fill body.now pairs.now.lefts ∷ []) (fill body.now pairs.now.rights ∷ []) }
 {
     let sides = walk(alloc, env, lines, body, &pairs.at, 0, pairs)?;
     line_for(alloc, env, lines, &pairs.at, &sides.left, &sides.line)
@@ -120,7 +124,7 @@ pub fn congruence_beside(
 pub fn congruence_at_child(
     alloc: Global,
     env: &Env,
-    lines: &mut Lines,
+    lines: &mut Derivation,
     at: &Sequent,
     of: &Application,
     change: &Change,
@@ -133,6 +137,7 @@ pub fn congruence_at_child(
     requires given { Equates lines.old (at_children at.now of.now.sym.now of.now.types.now) (entry of.now.children.now change.now.place) change.now.new change.now.line }
     ensures line { IfOk result (λ n. Equates lines.new at.now (node of.now.sym.now of.now.types.now (terms of.now.children.now)) (node of.now.sym.now of.now.types.now (terms (slice_set of.now.children.now change.now.place change.now.new))) n) }
     ensures extends { Extends env.now lines.old lines.new }
+    ensures limits { KeepBetween env.now lines.old lines.new at.now (node of.now.sym.now of.now.types.now (terms of.now.children.now) ∷ []) (node of.now.sym.now of.now.types.now (terms (slice_set of.now.children.now change.now.place change.now.new)) ∷ []) }
 {
     let inner = at_children(alloc, at, of.sym, of.types)?;
     let children = but_one(alloc, &inner, of.children, change)?;
@@ -186,7 +191,7 @@ fn nones(alloc: Global, trees: &[Tree]) -> Result<Vec<Option<u128>>, NoMemory>
 fn walk(
     alloc: Global,
     env: &Env,
-    lines: &mut Lines,
+    lines: &mut Derivation,
     body: &Tree,
     at: &Sequent,
     count: u32,
@@ -202,6 +207,7 @@ fn walk(
     ensures right { IfOk result (λ s. s.right ≡ put count pairs.now.rights body.now) }
     ensures line { IfOk result (λ s. IsSettled lines.new at.now (put count pairs.now.lefts body.now) (put count pairs.now.rights body.now) s.line) }
     ensures extends { Extends env.now lines.old lines.new }
+    ensures limits { KeepBetween env.now lines.old lines.new at.now (put count pairs.now.lefts body.now ∷ []) (put count pairs.now.rights body.now ∷ []) }
 {
     if loose(body) <= u64::from(count) {
         return unchanged(alloc, body);
@@ -224,7 +230,7 @@ fn walk(
 fn apply(
     alloc: Global,
     env: &Env,
-    lines: &mut Lines,
+    lines: &mut Derivation,
     of: &Application,
     at: &Sequent,
     count: u32,
@@ -240,6 +246,7 @@ fn apply(
     ensures right { IfOk result (λ s. s.right ≡ put count pairs.now.rights (node of.now.sym.now of.now.types.now (terms of.now.children.now))) }
     ensures line { IfOk result (λ s. IsSettled lines.new at.now (put count pairs.now.lefts (node of.now.sym.now of.now.types.now (terms of.now.children.now))) (put count pairs.now.rights (node of.now.sym.now of.now.types.now (terms of.now.children.now))) s.line) }
     ensures extends { Extends env.now lines.old lines.new }
+    ensures limits { KeepBetween env.now lines.old lines.new at.now (put count pairs.now.lefts (node of.now.sym.now of.now.types.now (terms of.now.children.now)) ∷ []) (put count pairs.now.rights (node of.now.sym.now of.now.types.now (terms of.now.children.now)) ∷ []) }
 {
     let inner = at_children(alloc, at, of.sym, of.types)?;
     let under = count + binds(of.sym);
@@ -252,7 +259,7 @@ fn apply(
 fn walk_all(
     alloc: Global,
     env: &Env,
-    lines: &mut Lines,
+    lines: &mut Derivation,
     bodies: &[Tree],
     at: &Sequent,
     count: u32,
@@ -269,6 +276,7 @@ fn walk_all(
     ensures rights { IfOk result (λ p. p.rights ≡ map (put count pairs.now.rights) bodies.now) }
     ensures lines { IfOk result (λ p. AreSettled lines.new at.now p.lefts p.rights p.found) }
     ensures extends { Extends env.now lines.old lines.new }
+    ensures limits { KeepBetween env.now lines.old lines.new at.now (map (put count pairs.now.lefts) bodies.now) (map (put count pairs.now.rights) bodies.now) }
 {
     let mut lefts = Trees::new(alloc);
     let mut rights = Trees::new(alloc);
@@ -306,7 +314,7 @@ fn unchanged(alloc: Global, body: &Tree) -> Result<Sides, NoMemory>
 fn leaf(
     alloc: Global,
     env: &Env,
-    lines: &mut Lines,
+    lines: &mut Derivation,
     body: &Tree,
     at: &Sequent,
     count: u32,
@@ -324,6 +332,7 @@ fn leaf(
     ensures right { IfOk result (λ s. s.right ≡ put count pairs.now.rights body.now) }
     ensures line { IfOk result (λ s. IsSettled lines.new at.now (put count pairs.now.lefts body.now) (put count pairs.now.rights body.now) s.line) }
     ensures extends { Extends env.now lines.old lines.new }
+    ensures limits { KeepBetween env.now lines.old lines.new at.now [] [] }
 {
     let Some(i) = body.var() else {
         unreachable!();
@@ -341,7 +350,7 @@ fn leaf(
 fn pair_at(
     alloc: Global,
     env: &Env,
-    lines: &mut Lines,
+    lines: &mut Derivation,
     place: usize,
     at: &Sequent,
     count: u32,
@@ -359,6 +368,7 @@ fn pair_at(
     ensures right { IfOk result (λ s. s.right ≡ shift (entry pairs.now.rights place) 0 count) }
     ensures line { IfOk result (λ s. IsSettled lines.new at.now (shift (entry pairs.now.lefts place) 0 count) (shift (entry pairs.now.rights place) 0 count) s.line) }
     ensures extends { Extends env.now lines.old lines.new }
+    ensures limits { KeepBetween env.now lines.old lines.new at.now [] [] }
 {
     let lefts = pairs.lefts.as_slice();
     let rights = pairs.rights.as_slice();
@@ -375,7 +385,7 @@ fn pair_at(
 fn line_inside(
     alloc: Global,
     env: &Env,
-    lines: &mut Lines,
+    lines: &mut Derivation,
     at: &Sequent,
     count: u32,
     found: Option<u128>,
@@ -386,6 +396,7 @@ fn line_inside(
     requires room { length (type_list at.now.context) < 2 ^ 32 }
     ensures line { IfOk result (λ o. (S : Sequent) (l r : Term) → IsIndex S at.now count → IsSettled lines.old S l r found → IsSettled lines.new at.now (shift l 0 count) (shift r 0 count) o) }
     ensures extends { Extends env.now lines.old lines.new }
+    ensures limits { KeepBetween env.now lines.old lines.new at.now [] [] }
 {
     match found {
         None => Ok(None),
@@ -396,7 +407,7 @@ fn line_inside(
 fn number_inside(
     alloc: Global,
     env: &Env,
-    lines: &mut Lines,
+    lines: &mut Derivation,
     at: &Sequent,
     count: u32,
     premise: u128,
@@ -407,6 +418,7 @@ fn number_inside(
     requires room { length (type_list at.now.context) < 2 ^ 32 }
     ensures line { IfOk result (λ o. (S : Sequent) (l r : Term) → IsIndex S at.now count → Equates lines.old S l r premise → IsSettled lines.new at.now (shift l 0 count) (shift r 0 count) o) }
     ensures extends { Extends env.now lines.old lines.new }
+    ensures limits { KeepBetween env.now lines.old lines.new at.now [] [] }
 {
     if count == 0 {
         return Ok(Some(premise));
@@ -419,7 +431,7 @@ fn number_inside(
 fn brought(
     alloc: Global,
     env: &Env,
-    lines: &mut Lines,
+    lines: &mut Derivation,
     at: &Sequent,
     count: u32,
     premise: u128,
@@ -430,6 +442,7 @@ fn brought(
     requires room { length (type_list at.now.context) < 2 ^ 32 }
     ensures line { IfOk result (λ n. (S : Sequent) (l r : Term) → IsIndex S at.now count → Equates lines.old S l r premise → Equates lines.new at.now (shift l 0 count) (shift r 0 count) n) }
     ensures extends { Extends env.now lines.old lines.new }
+    ensures limits { KeepBetween env.now lines.old lines.new at.now [] [] }
 {
     let found = sequent_of(lines, premise);
     let goal = shift(alloc, &found.goal, 0, count)?;
@@ -446,7 +459,7 @@ fn brought(
 fn joined(
     alloc: Global,
     env: &Env,
-    lines: &mut Lines,
+    lines: &mut Derivation,
     at: &Sequent,
     of: &Application,
     children: Pairs,
@@ -462,15 +475,18 @@ fn joined(
     ensures right { IfOk result (λ s. s.right ≡ node of.now.sym.now of.now.types.now (terms children.rights)) }
     ensures line { IfOk result (λ s. IsSettled lines.new at.now (node of.now.sym.now of.now.types.now (terms children.lefts)) (node of.now.sym.now of.now.types.now (terms children.rights)) s.line) }
     ensures extends { Extends env.now lines.old lines.new }
+    ensures limits { KeepBetween env.now lines.old lines.new at.now (node of.now.sym.now of.now.types.now (terms children.lefts) ∷ []) (node of.now.sym.now of.now.types.now (terms children.rights) ∷ []) }
 {
     let lefts = children.lefts.as_slice();
     let found = children.found.as_slice();
     if are_none(found) {
         return both(alloc, of, &children);
     }
-    let numbers = completed(alloc, env, lines, &children.at, lefts, found)?;
+    let types = types_of_node(alloc, env, of.sym, of.types)?;
+    let args = types.args.as_slice();
+    let numbers = completed(alloc, env, lines, &children.at, args, lefts, found)?;
     let sides = both(alloc, of, &children)?;
-    let line = congruent(alloc, env, lines, at, &sides, numbers)?;
+    let line = congruent(alloc, env, lines, at, &types.result, &sides, numbers)?;
     Ok(Sides {
         left: sides.left,
         right: sides.right,
@@ -504,21 +520,23 @@ fn applied(alloc: Global, of: &Application, terms: &Trees) -> Result<Tree, NoMem
 fn congruent(
     alloc: Global,
     env: &Env,
-    lines: &mut Lines,
+    lines: &mut Derivation,
     at: &Sequent,
+    ty: &Ty,
     sides: &Sides,
     numbers: Nums,
 ) -> Result<u128, NoMemory>
     requires derivation { IsDerivation env.now lines.old }
     requires base { IsBaseContext env.now at.now }
     requires alike { AreAlike env.now (type_list at.now.context) sides.now.left sides.now.right }
+    requires typed { Typed env.now (type_list at.now.context) sides.now.left ty.now }
     requires premises { IsByCongruence lines.old at.now sides.now.left sides.now.right numbers }
     ensures line { IfOk result (λ n. Equates lines.new at.now sides.now.left sides.now.right n) }
     ensures extends { Extends env.now lines.old lines.new }
+    ensures limits { KeepBetween env.now lines.old lines.new at.now (sides.now.left ∷ []) (sides.now.right ∷ []) }
 {
     let _opened = env.count();
-    let ty = type_of_typed(alloc, env, &at.context, &sides.left)?;
-    let sequent = equated_beside(alloc, at, &ty, &sides.left, &sides.right)?;
+    let sequent = equated_beside(alloc, at, ty, &sides.left, &sides.right)?;
     from_lines(alloc, env, lines, sequent, BaseRule::Cong, numbers)
 }
 
@@ -538,30 +556,57 @@ fn are_none(found: &[Option<u128>]) -> bool
 fn completed(
     alloc: Global,
     env: &Env,
-    lines: &mut Lines,
+    lines: &mut Derivation,
     at: &Sequent,
+    types: &[Ty],
     lefts: &[Tree],
     found: &[Option<u128>],
 ) -> Result<Nums, NoMemory>
     requires derivation { IsDerivation env.now lines.old }
     requires base { IsBaseContext env.now at.now }
+    requires typed { AreTyped env.now (type_list at.now.context) (terms lefts.now) types.now }
     requires given { (rs : List Term) × AreSettled lines.old at.now lefts.now rs found.now × AreAllAlike env.now (type_list at.now.context) lefts.now rs }
     ensures numbers { IfOk result (λ ns. (rs : List Term) → AreSettled lines.old at.now lefts.now rs found.now → AreEquatedBy lines.new at.now lefts.now rs ns) }
     ensures extends { Extends env.now lines.old lines.new }
+    ensures limits { KeepBetween env.now lines.old lines.new at.now lefts.now [] }
 {
     let mut numbers = Nums::new(alloc);
     for i in 0..lefts.len() {
-        let number = line_for(alloc, env, lines, at, &lefts[i], &found[i])?;
+        let number = line_at(alloc, env, lines, at, &types[i], &lefts[i], &found[i])?;
         numbers.push(alloc, number)?;
     }
     Ok(numbers)
+}
+
+/// The line that was found, or one by reflexivity at the type.
+fn line_at(
+    alloc: Global,
+    env: &Env,
+    lines: &mut Derivation,
+    at: &Sequent,
+    ty: &Ty,
+    left: &Tree,
+    found: &Option<u128>,
+) -> Result<u128, NoMemory>
+    requires derivation { IsDerivation env.now lines.old }
+    requires base { IsBaseContext env.now at.now }
+    requires typed { Typed env.now (type_list at.now.context) left.now ty.now }
+    requires plain { IsPlain env.now left.now }
+    ensures line { IfOk result (λ n. (r : Term) → IsSettled lines.old at.now left.now r found.now → Equates lines.new at.now left.now r n) }
+    ensures extends { Extends env.now lines.old lines.new }
+    ensures limits { KeepBetween env.now lines.old lines.new at.now (left.now ∷ []) [] }
+{
+    match found {
+        Some(number) => Ok(*number),
+        None => reflexivity(alloc, env, lines, at, ty, left),
+    }
 }
 
 /// The line that was found, or one by reflexivity.
 fn line_for(
     alloc: Global,
     env: &Env,
-    lines: &mut Lines,
+    lines: &mut Derivation,
     at: &Sequent,
     left: &Tree,
     found: &Option<u128>,
@@ -572,6 +617,7 @@ fn line_for(
     requires plain { IsPlain env.now left.now }
     ensures line { IfOk result (λ n. (r : Term) → IsSettled lines.old at.now left.now r found.now → Equates lines.new at.now left.now r n) }
     ensures extends { Extends env.now lines.old lines.new }
+    ensures limits { KeepBetween env.now lines.old lines.new at.now (left.now ∷ []) [] }
 {
     match found {
         Some(number) => Ok(*number),

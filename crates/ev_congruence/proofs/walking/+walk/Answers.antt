@@ -9,6 +9,7 @@ use Rattle.ev_congruence.proofs.Appending.{extended_derivation, extends_twice}
 use Rattle.ev_congruence.proofs.Equal.{settled_stays, settled_step}
 use Rattle.ev_congruence.proofs.Putting.{put_closed, settled_by, settled_one, alike_by}
 use Rattle.ev_congruence.proofs.Nodes.{inner_base, inner_inside_by, put_sides, alike_both, inner_room, inner_alike, hyps_low, count_within, sides_types, alike_map, map_step}
+use Rattle.ev_congruence.proofs.Within.{between_any, between_twice, between_one, between_applied, between_step}
 use Rattle.ev_congruence.proofs.walking.+walk.Goals as goal
 use Rattle.ev_congruence.specs.Equating.{AreSettled}
 use Rattle.ev_congruence.specs.inner.Inside.{put}
@@ -124,6 +125,8 @@ walk_all-walk-requires t c =
 
 pub walk_all-loop-body-preserved : goal.walk_all-loop-body-preserved
 walk_all-loop-body-preserved t c = record {
+  limits = between_step c.args.env.now c.args.lines.now c.loop-body.lines c.walk.new.lines c.args.at.now (put c.args.count c.args.pairs.now.lefts) (put c.args.count c.args.pairs.now.rights) c.args.bodies.now c.loop-body.body-index
+      c.body-item.result c.loop-body.invariant.limits c.walk.ensures.limits c.body-item.is c.loop-body-test.true;
   extends = extends_twice c.args.env.now c.args.lines.now c.loop-body.lines c.walk.new.lines c.loop-body.invariant.extends c.walk.ensures.extends;
   lefts = map_step (put c.args.count c.args.pairs.now.lefts) c.args.bodies.now c.loop-body.lefts c.push.new.self c.loop-body.body-index c.body-item.result c.in_ok-sides.sides.left c.loop-body.invariant.lefts
       c.in_ok-push.ensures.ok c.in_ok-sides.ensures.left c.body-item.is c.loop-body-test.true;
@@ -147,3 +150,49 @@ walk_all-returns-in_err-push-2-clause-extends t c = extends_twice c.args.env.now
 
 pub walk_all-returns-in_err-push-3-clause-extends : goal.walk_all-returns-in_err-push-3-clause-extends
 walk_all-returns-in_err-push-3-clause-extends t c = extends_twice c.args.env.now c.args.lines.now c.loop-body.lines c.walk.new.lines c.loop-body.invariant.extends c.walk.ensures.extends
+
+pub walk-returns-in-None-clause-limits : goal.walk-returns-in-None-clause-limits
+walk-returns-in-None-clause-limits t c = between_any c.args.env.now c.args.lines.now c.leaf.new.lines c.args.at.now _ _ c.leaf.ensures.limits
+
+pub walk-returns-in-Some-clause-limits : goal.walk-returns-in-Some-clause-limits
+walk-returns-in-Some-clause-limits t c =
+    between_one c.args.env.now c.args.lines.now c.apply.new.lines c.args.at.now _ _ _ _ (ap (put c.args.count c.args.pairs.now.lefts) c.in-Some.ensures.found) (ap (put c.args.count c.args.pairs.now.rights) c.in-Some.ensures.found)
+    c.apply.ensures.limits
+
+pub apply-returns-in_err-children-clause-limits : goal.apply-returns-in_err-children-clause-limits
+apply-returns-in_err-children-clause-limits t c =
+    between_applied c.args.env.now c.args.lines.now c.walk_all.new.lines c.args.at.now c.in_ok-inner.inner c.args.count (c.args.count + c.binds.result) c.args.pairs.now.lefts c.args.pairs.now.rights c.args.of.now.sym.now
+    c.args.of.now.types.now c.args.of.now.children.now c.args.at.now.goal c.in_ok-inner.ensures (ap (λ n. c.args.count + n) c.binds.ensures) c.walk_all.ensures.limits
+
+pub apply-returns-clause-limits : goal.apply-returns-clause-limits
+apply-returns-clause-limits t c =
+    between_twice c.args.env.now c.args.lines.now c.walk_all.new.lines c.joined.new.lines c.args.at.now _ _
+    (between_applied c.args.env.now c.args.lines.now c.walk_all.new.lines c.args.at.now c.in_ok-inner.inner c.args.count (c.args.count + c.binds.result) c.args.pairs.now.lefts c.args.pairs.now.rights c.args.of.now.sym.now
+    c.args.of.now.types.now c.args.of.now.children.now c.args.at.now.goal c.in_ok-inner.ensures (ap (λ n. c.args.count + n) c.binds.ensures) c.walk_all.ensures.limits)
+    (between_one c.args.env.now c.walk_all.new.lines c.joined.new.lines c.args.at.now _ _ _ _
+    (put_sides c.args.count (c.args.count + c.binds.result) c.args.pairs.now.lefts c.args.of.now.sym.now c.args.of.now.types.now c.args.of.now.children.now c.in_ok-children.children.lefts (ap (λ n. c.args.count + n) c.binds.ensures) c.in_ok-children.ensures.lefts)
+    (put_sides c.args.count (c.args.count + c.binds.result) c.args.pairs.now.rights c.args.of.now.sym.now c.args.of.now.types.now c.args.of.now.children.now c.in_ok-children.children.rights (ap (λ n. c.args.count + n) c.binds.ensures) c.in_ok-children.ensures.rights)
+    c.joined.ensures.limits)
+
+pub walk_all-returns-in_err-sides-clause-limits : goal.walk_all-returns-in_err-sides-clause-limits
+walk_all-returns-in_err-sides-clause-limits t c =
+    between_step c.args.env.now c.args.lines.now c.loop-body.lines c.walk.new.lines c.args.at.now (put c.args.count c.args.pairs.now.lefts) (put c.args.count c.args.pairs.now.rights) c.args.bodies.now c.loop-body.body-index
+    c.body-item.result c.loop-body.invariant.limits c.walk.ensures.limits c.body-item.is c.loop-body-test.true
+
+pub walk_all-returns-in_err-push-clause-limits : goal.walk_all-returns-in_err-push-clause-limits
+walk_all-returns-in_err-push-clause-limits t c =
+    between_step c.args.env.now c.args.lines.now c.loop-body.lines c.walk.new.lines c.args.at.now (put c.args.count c.args.pairs.now.lefts) (put c.args.count c.args.pairs.now.rights) c.args.bodies.now c.loop-body.body-index
+    c.body-item.result c.loop-body.invariant.limits c.walk.ensures.limits c.body-item.is c.loop-body-test.true
+
+pub walk_all-returns-in_err-push-2-clause-limits : goal.walk_all-returns-in_err-push-2-clause-limits
+walk_all-returns-in_err-push-2-clause-limits t c =
+    between_step c.args.env.now c.args.lines.now c.loop-body.lines c.walk.new.lines c.args.at.now (put c.args.count c.args.pairs.now.lefts) (put c.args.count c.args.pairs.now.rights) c.args.bodies.now c.loop-body.body-index
+    c.body-item.result c.loop-body.invariant.limits c.walk.ensures.limits c.body-item.is c.loop-body-test.true
+
+pub walk_all-returns-in_err-push-3-clause-limits : goal.walk_all-returns-in_err-push-3-clause-limits
+walk_all-returns-in_err-push-3-clause-limits t c =
+    between_step c.args.env.now c.args.lines.now c.loop-body.lines c.walk.new.lines c.args.at.now (put c.args.count c.args.pairs.now.lefts) (put c.args.count c.args.pairs.now.rights) c.args.bodies.now c.loop-body.body-index
+    c.body-item.result c.loop-body.invariant.limits c.walk.ensures.limits c.body-item.is c.loop-body-test.true
+
+pub walk_all-returns-clause-limits : goal.walk_all-returns-clause-limits
+walk_all-returns-clause-limits t c = c.loop-body.invariant.limits

@@ -2,6 +2,7 @@ use Rattle.std.proofs.Common.{◌≡◌, ◌*◌, ◌+◌, take, map}
 use Rattle.ev_terms.specs.Term.{terms}
 use Rattle.ev_terms.specs.Measures.{depth, depths}
 use Rattle.ev_congruence.specs.Growing.{Extends}
+use Rattle.ev_congruence.specs.Limits.{KeepBetween}
 use Rattle.ev_congruence.specs.Equating.{AreSettled}
 use Rattle.ev_congruence.specs.inner.Inside.{put}
 use Rattle.ev_congruence.proofs.walking.+walk.Given as goal
@@ -18,6 +19,7 @@ decreases-walk_all l = 4 * depths (terms l.bodies.now) + 2
 abbrev pub invariant-walk_all-loop-body : goal.invariant-walk_all-loop-body
 invariant-walk_all-loop-body l = record {
   extends : Extends l.env l.initial.lines l.lines;
+  limits : KeepBetween l.env l.initial.lines l.lines l.at (map (put l.count l.pairs.lefts) l.bodies) (map (put l.count l.pairs.rights) l.bodies);
   lefts : l.lefts ≡ map (put l.count l.pairs.lefts) (take l.body-index l.bodies);
   rights : l.rights ≡ map (put l.count l.pairs.rights) (take l.body-index l.bodies);
   found : AreSettled l.lines l.at l.lefts l.rights l.found;

@@ -3,6 +3,8 @@ use Rattle.std.proofs.lemmas.Result.{IfOk-weaker}
 use Rattle.ev_terms.specs.Types.{type_list}
 use Rattle.ev_typing.specs.declared.typing.Sequent.{Sequent}
 use Rattle.ev_congruence.proofs.Bringing.{found_equation, brought_low, inside_length, brought_widened, brought_line, context_parts}
+use Rattle.ev_congruence.proofs.Contexts.{by_parts}
+use Rattle.ev_congruence.proofs.Within.{between_brought}
 use Rattle.ev_congruence.proofs.walking.brought.Goals as goal
 
 pub sequent_of-found-requires : goal.sequent_of-found-requires
@@ -46,3 +48,9 @@ overflow_cast-length c =
     let o = c.requires.outside in
     let k = ap (λ (x : Sequent). length (type_list x.context)) (found_equation c.args.lines.now o.outer o.left o.right c.args.premise c.sequent_of-found.result.now c.sequent_of-found.ensures o.settled) in
     omega (arith, inside_length o.outer c.args.at.now c.args.count o.inside, k, c.len-length.ensures, c.requires.room)
+
+pub returns-clause-limits : goal.returns-clause-limits
+returns-clause-limits c =
+    between_brought c.args.env.now c.args.lines.now c.lengthened.new.lines c.args.at.now c.sequent_of-found.result.now _ c.args.premise _ c.args.count c.sequent_of-found.ensures
+    (by_parts c.in_ok-try_copy.field-0 c.args.at.now.context c.in_ok-try_copy-2.field-0 c.args.at.now.hyps c.in_ok-goal.goal _ c.in_ok-try_copy.ensures c.in_ok-try_copy-2.ensures c.in_ok-goal.ensures)
+    c.lengthened.ensures.limits

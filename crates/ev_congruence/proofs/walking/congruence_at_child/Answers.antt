@@ -10,6 +10,7 @@ use Rattle.ev_congruence.proofs.Appending.{extended_derivation, extends_twice}
 use Rattle.ev_congruence.proofs.Putting.{settled_by, alike_by}
 use Rattle.ev_congruence.proofs.Nodes.{good_types, inner_base, inner_context, hyps_low, children_alike, alike_both}
 use Rattle.ev_congruence.proofs.ButOne.{settled_but_one, equates_beside, settled_lists, node_by, equates_sides}
+use Rattle.ev_congruence.proofs.Within.{between_one, between_line}
 use Rattle.ev_congruence.proofs.walking.congruence_at_child.Goals as goal
 use Rattle.ev_congruence.specs.inner.Inside.{AreAllAlike}
 
@@ -63,3 +64,13 @@ returns-clause-line c =
 
 pub returns-clause-extends : goal.returns-clause-extends
 returns-clause-extends c = extends_twice c.args.env.now c.args.lines.now c.joined.new.lines c.line_for.new.lines c.joined.ensures.extends c.line_for.ensures.extends
+
+pub returns-in_err-sides-clause-limits : goal.returns-in_err-sides-clause-limits
+returns-in_err-sides-clause-limits c =
+    between_one c.args.env.now c.args.lines.now c.joined.new.lines c.args.at.now _ _ _ _ (sym (node_by c.args.of.now.sym.now c.args.of.now.types.now c.args.of.now.children.now c.in_ok-children.children.lefts c.in_ok-children.ensures.lefts)) (sym (node_by c.args.of.now.sym.now c.args.of.now.types.now (slice_set c.args.of.now.children.now c.args.change.now.place c.args.change.now.new) c.in_ok-children.children.rights c.in_ok-children.ensures.rights)) c.joined.ensures.limits
+
+pub returns-clause-limits : goal.returns-clause-limits
+returns-clause-limits c =
+    between_line c.args.env.now c.args.lines.now c.joined.new.lines c.line_for.new.lines c.args.at.now _ _ c.in_ok-sides.sides.left
+    (c.in_ok-sides.ensures.left ∙ node_by c.args.of.now.sym.now c.args.of.now.types.now c.args.of.now.children.now c.in_ok-children.children.lefts c.in_ok-children.ensures.lefts)
+    (between_one c.args.env.now c.args.lines.now c.joined.new.lines c.args.at.now _ _ _ _ (sym (node_by c.args.of.now.sym.now c.args.of.now.types.now c.args.of.now.children.now c.in_ok-children.children.lefts c.in_ok-children.ensures.lefts)) (sym (node_by c.args.of.now.sym.now c.args.of.now.types.now (slice_set c.args.of.now.children.now c.args.change.now.place c.args.change.now.new) c.in_ok-children.children.rights c.in_ok-children.ensures.rights)) c.joined.ensures.limits) c.line_for.ensures.limits

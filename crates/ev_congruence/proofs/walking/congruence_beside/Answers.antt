@@ -2,6 +2,9 @@ use Rattle.std.proofs.lemmas.Result.{IfOk-weaker}
 use Rattle.ev_terms.specs.Types.{type_list}
 use Rattle.ev_congruence.proofs.Appending.{extended_derivation, extends_twice}
 use Rattle.ev_congruence.proofs.Whole.{inside_itself, alike_put, settled_put, alike_sides, equates_put}
+use Rattle.std.proofs.Common.{◌∙◌, sym}
+use Rattle.ev_congruence.proofs.Whole.{put_none}
+use Rattle.ev_congruence.proofs.Within.{between_one, between_line}
 use Rattle.ev_congruence.proofs.walking.congruence_beside.Goals as goal
 
 pub walk-requires : goal.walk-requires
@@ -34,3 +37,13 @@ returns-clause-line c =
 
 pub returns-clause-extends : goal.returns-clause-extends
 returns-clause-extends c = extends_twice c.args.env.now c.args.lines.now c.walk.new.lines c.line_for.new.lines c.walk.ensures.extends c.line_for.ensures.extends
+
+pub returns-in_err-sides-clause-limits : goal.returns-in_err-sides-clause-limits
+returns-in_err-sides-clause-limits c =
+    between_one c.args.env.now c.args.lines.now c.walk.new.lines c.args.pairs.now.at _ _ _ _ (sym (put_none c.args.pairs.now.lefts c.args.body.now)) (sym (put_none c.args.pairs.now.rights c.args.body.now)) c.walk.ensures.limits
+
+pub returns-clause-limits : goal.returns-clause-limits
+returns-clause-limits c =
+    between_line c.args.env.now c.args.lines.now c.walk.new.lines c.line_for.new.lines c.args.pairs.now.at _ _ c.in_ok-sides.sides.left
+    (c.in_ok-sides.ensures.left ∙ put_none c.args.pairs.now.lefts c.args.body.now)
+    (between_one c.args.env.now c.args.lines.now c.walk.new.lines c.args.pairs.now.at _ _ _ _ (sym (put_none c.args.pairs.now.lefts c.args.body.now)) (sym (put_none c.args.pairs.now.rights c.args.body.now)) c.walk.ensures.limits) c.line_for.ensures.limits

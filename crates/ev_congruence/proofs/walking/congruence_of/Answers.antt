@@ -4,6 +4,8 @@ use Rattle.ev_congruence.specs.Growing.{concluded}
 use Rattle.ev_congruence.proofs.Appending.{concluded_base}
 use Rattle.ev_congruence.proofs.Contexts.{context_of}
 use Rattle.ev_congruence.proofs.Whole.{ready_alike, all_settled, first_concluded, beside_first, ready_beside, congruence_is, first_number, ready_by, equates_by}
+use Rattle.ev_terms.specs.Substitution.{fill}
+use Rattle.ev_congruence.proofs.Within.{between_one, between_beside}
 use Rattle.ev_congruence.proofs.walking.congruence_of.Goals as goal
 
 pub sequent_of-requires : goal.sequent_of-requires
@@ -34,3 +36,13 @@ returns-clause-line c =
     congruence_is c.args.env.now c.args.lines.now c.congruence_beside.new.lines c.in_ok-at.at c.args.body.now c.args.left.now c.args.right.now c.args.premises.now (get_or c.as_slice-premises.result.now 0 0) n
     c.requires.derivation c.congruence_beside.ensures.extends c.requires.some (first_number c.as_slice-premises.result.now c.args.premises.now c.as_slice-premises.ensures c.requires.some) f
     (equates_by _ c.in_ok-at.at c.args.body.now c.args.left.now c.args.right.now c.in_ok-try_copy.field-0 c.in_ok-try_copy-2.field-0 n c.in_ok-try_copy.ensures c.in_ok-try_copy-2.ensures h)) c.congruence_beside.ensures.line
+
+pub returns-clause-limits : goal.returns-clause-limits
+returns-clause-limits c =
+    let f : concluded c.args.lines.now (get_or c.as_slice-premises.result.now 0 0) ≡ Some c.in_ok-at.at = c.sequent_of.ensures ∙ ap Some (sym c.in_ok-at.ensures) in
+    λ S q.
+    between_beside c.args.env.now c.args.lines.now c.congruence_beside.new.lines S c.in_ok-at.at _ _
+    (beside_first c.args.lines.now S c.in_ok-at.at c.args.left.now c.args.right.now c.args.premises.now (get_or c.as_slice-premises.result.now 0 0) q c.requires.some
+    (first_number c.as_slice-premises.result.now c.args.premises.now c.as_slice-premises.ensures c.requires.some) f)
+    (between_one c.args.env.now c.args.lines.now c.congruence_beside.new.lines c.in_ok-at.at _ _ _ _ (sym (ap (fill c.args.body.now) c.in_ok-try_copy.ensures)) (sym (ap (fill c.args.body.now) c.in_ok-try_copy-2.ensures))
+    c.congruence_beside.ensures.limits)

@@ -56,4 +56,5 @@ returns c =
           (found_read c.args.lines.now c.args.pairs.now.at c.args.pairs.now.lefts c.args.pairs.now.rights c.args.pairs.now.found c.as_slice-found.result.now c.args.place c.requires.given c.as_slice-found.ensures
           c.requires.within);
       extends = c.line_inside.ensures.extends;
+      limits = c.line_inside.ensures.limits;
     }
