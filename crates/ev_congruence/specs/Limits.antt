@@ -58,8 +58,9 @@ Keep before after Ss ts As =
 abbrev pub KeepBy : List Line → List Line → Sequent → BaseRule → Type 0
 KeepBy before after S rule = (m : Count) (d : ℕ) → IsWithin m d S → RuleIsWithin m d rule → AreWithin m d before → AreWithin m d after
 
--- How the count of a whole goes by those of its parts: a variable counts at most 1, shifts add nothing, type arguments and children are within their node, an equation
--- is one above its type and its sides, and the type of a term is at most 200 above the term or within its context.
+-- How the count of a whole goes by those of its parts: a variable counts at most 1, shifts add nothing, type arguments and children are
+-- within their node, an equation is one above its type and its sides, and the type of a term is at most 200 above the term or within its
+-- context.
 pub record GoesByParts (env : Env) (m : Count) : Type 0 where
   pub variables : (i : ℕ) → m.of_term (var i) ≤ 1
   pub shifted : (t : Term) (from by : ℕ) → m.of_term (shift t from by) ≤ m.of_term t
@@ -97,7 +98,8 @@ abbrev pub DepthGoesByParts : Type 0
 DepthGoesByParts = (env : Env) → HasShallowSignatures env → GoesByParts env depth_count
 
 -- Nesting of texts.
--- How deep the text of a term nests: that of a variable by 1, in a longer context no deeper, a child no deeper than its node, an equation one deeper than its sides.
+-- How deep the text of a term nests: that of a variable by 1, in a longer context no deeper, a child no deeper than its node, an equation
+-- one deeper than its sides.
 pub record IsTextNesting (nesting : Term → ℕ) : Type 0 where
   pub variables : (i : ℕ) → nesting (var i) ≤ 1
   pub shifted : (t : Term) (from by : ℕ) → nesting (shift t from by) ≤ nesting t

@@ -1,5 +1,5 @@
 -- Contexts and terms without direct operators.
-use Rattle.std.specs.Prelude.{◌++◌, ◌+◌, ◌≤◌, ◌^◌, ℕ, List, length}
+use Rattle.std.specs.Prelude.{◌++◌, ◌+◌, ◌≤◌, ◌<◌, ◌^◌, ℕ, List, length}
 use Rattle.std.specs.List.{AllByRecursion}
 use Rattle.ev_terms.specs.declared.types.Ty.{Ty}
 use Rattle.ev_terms.specs.Types.{type_list}
@@ -35,3 +35,7 @@ FilledAreAlike =
     → Typed env (C ++ As) body A → AreTyped env C (terms ls) As → AreTyped env C (terms rs) As → IsPlain env body → ArePlain env (terms ls) → ArePlain env (terms rs)
     → depths (terms ls) ≤ d → depths (terms rs) ≤ d → (length C + length As) + (depth body + d) ≤ 2 ^ 32
     → AreAlike env C (fill body ls) (fill body rs)
+
+-- numbers of variables stay below 2^32 when hypotheses and goal are shifted by one
+abbrev pub HasShiftRoom : Sequent → Type 0
+HasShiftRoom S = length (type_list S.context) + (depths (terms S.hyps) + depth S.goal) < 2 ^ 32
