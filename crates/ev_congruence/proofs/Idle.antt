@@ -1,5 +1,5 @@
 -- Idle variables: a new variable as a witness.
-use Rattle.std.specs.Prelude.{◌≡◌, ◌+◌, ◌<◌, ◌≤◌, ◌++◌, ◌^◌, ℕ, zero, suc, List, [], ◌∷◌, Some, map, length, take, Contains, refl}
+use Rattle.std.specs.Prelude.{◌≡◌, ◌+◌, ◌≤◌, ◌++◌, ◌^◌, ℕ, zero, suc, List, [], ◌∷◌, Some, length, take, Contains, refl}
 use Rattle.std.specs.List.{AllByRecursion}
 use Rattle.std.proofs.Common.{ap, sym, ◌∙◌, subst as transport, arith}
 use Rattle.std.proofs.Math.Path.{fun_ext}
@@ -9,7 +9,7 @@ use Rattle.ev_terms.specs.declared.types.Tys.{Tys, Empty}
 use Rattle.ev_terms.specs.Types.{more, type_list}
 use Rattle.ev_terms.specs.Term.{Term, var, lit, node, nil, cons, terms}
 use Rattle.ev_terms.specs.Symbols.{binds}
-use Rattle.ev_terms.specs.Measures.{loose, depth, depths, highest, all_highest}
+use Rattle.ev_terms.specs.Measures.{loose, depth, highest, all_highest}
 use Rattle.ev_terms.specs.Substitution.{shift_var, shift, shifts, inst, entry, substitute, fill, instance}
 use Rattle.ev_terms.proofs.Laws.{inst-id}
 use Rattle.ev_terms.proofs.AnyLaws.{inst-of_shift}
@@ -32,7 +32,7 @@ use Rattle.ev_kernel.specs.declared.rules.BaseRule.TheVariants.{AllE, ExI, ExE, 
 use Rattle.ev_kernel.specs.Row.{Row}
 use Rattle.ev_axioms.specs.Axioms.{rows, axiom_row}
 use Rattle.ev_congruence.specs.Growing.{concluded}
-use Rattle.ev_congruence.specs.Settings.{IsBaseContext, HasShiftRoom}
+use Rattle.ev_congruence.specs.Settings.{HasShiftRoom}
 use Rattle.ev_congruence.specs.Equating.{IsInstantiable}
 use Rattle.ev_congruence.proofs.Terms.{typed_loose, shift_plain}
 use Rattle.ev_congruence.proofs.Contexts.{context_of, by_parts, shifted_typed, context_widened, base_widened}

@@ -3,7 +3,6 @@ use Rattle.std.proofs.lemmas.Result.{IfOk-weaker}
 use Rattle.ev_forms.specs.Forms.{truth}
 use Rattle.ev_typing.specs.declared.typing.Sequent.{Sequent}
 use Rattle.ev_typing.specs.Sequents.{◌▹◌}
-use Rattle.ev_typing.specs.BaseSequents.{under}
 use Rattle.ev_congruence.specs.Settings.{IsBaseContext}
 use Rattle.ev_congruence.proofs.Appending.{extended_derivation, extends_twice, concluded_base}
 use Rattle.ev_congruence.proofs.Contexts.{context_of, context_widened}
@@ -61,7 +60,9 @@ returns-in_err-line-clause-limits c = λ m d s t a h. c.lengthened.ensures.limit
 
 pub returns-clause-limits : goal.returns-clause-limits
 returns-clause-limits c = λ m d s t a h.
-    c.weakened.ensures.limits m d
-    (within_by m d _ _
-    (ap (λ H. record { context = c.in_ok-inner.inner.context; hyps = H; goal = c.in_ok-inner.inner.goal }) c.in_ok-hyps.ensures ∙ ap (λ (S : Sequent). S ▹ truth) c.in_ok-inner.ensures) s.1.0, tt) tt tt
+    c.weakened.ensures.limits m d (
+      within_by m d _ _
+          (ap (λ H. record { context = c.in_ok-inner.inner.context; hyps = H; goal = c.in_ok-inner.inner.goal }) c.in_ok-hyps.ensures ∙ ap (λ (S : Sequent). S ▹ truth) c.in_ok-inner.ensures) s.1.0,
+      tt,
+    ) tt tt
     (c.lengthened.ensures.limits m d (within_by m d _ _ (c.in_ok-long.ensures ∙ c.in_ok-inner.ensures) s.0, tt) (transport (λ n. TermsAreWithin m d (vars_above n 1)) (sym c.len-outer.ensures) t) tt h)

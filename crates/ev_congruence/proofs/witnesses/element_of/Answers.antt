@@ -1,4 +1,4 @@
-use Rattle.std.proofs.Common.{◌∙◌, ap, [], map}
+use Rattle.std.proofs.Common.{◌∙◌, []}
 use Rattle.ev_forms.specs.Forms.{exists, truth}
 use Rattle.ev_congruence.proofs.Contexts.{by_parts}
 use Rattle.ev_congruence.proofs.Idle.{exists_by}

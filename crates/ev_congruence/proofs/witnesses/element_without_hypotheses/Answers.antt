@@ -39,9 +39,11 @@ returns-in_err-axiom-clause-limits c = λ m d s t a h. c.witness_axiom.ensures.l
 
 pub returns-clause-limits : goal.returns-clause-limits
 returns-clause-limits c = λ m d s t a h.
-    c.instantiated.ensures.limits some_element c.in_ok-axiom.ensures.concludes m d
-    (within_by m d _ _ (by_parts c.args.at.now.context c.args.at.now.context [] [] _ (exists c.args.ty.now truth) refl refl
-    (element_goal c.args.ty.now c.in_ok-types.types c.new-terms.result (c.in_ok-types.ensures.is ∙ ap (λ A. more A Empty) c.in_ok-try_copy.ensures) c.new-terms.ensures)) s.1.0, tt)
+    c.instantiated.ensures.limits some_element c.in_ok-axiom.ensures.concludes m d (
+      within_by m d _ _ (by_parts c.args.at.now.context c.args.at.now.context [] [] _ (exists c.args.ty.now truth) refl refl
+          (element_goal c.args.ty.now c.in_ok-types.types c.new-terms.result (c.in_ok-types.ensures.is ∙ ap (λ A. more A Empty) c.in_ok-try_copy.ensures) c.new-terms.ensures)) s.1.0,
+      tt,
+    )
     (transport (TermsAreWithin m d) (sym c.new-terms.ensures) tt)
     (transport (λ As. TypesAreWithin m d (type_list As)) (sym (c.in_ok-types.ensures.is ∙ ap (λ A. more A Empty) c.in_ok-try_copy.ensures)) a)
     (c.witness_axiom.ensures.limits m d (s.0, tt) tt tt h)

@@ -1,18 +1,16 @@
 use Rattle.std.proofs.Common.{◌∙◌, ap, sym, Some, subst as transport}
 use Rattle.std.proofs.lemmas.Result.{IfOk-weaker}
-use Rattle.ev_terms.specs.Types.{type_list}
 use Rattle.ev_terms.specs.Substitution.{shift}
-use Rattle.ev_forms.specs.Forms.{truth, forall, exists}
+use Rattle.ev_forms.specs.Forms.{truth, exists}
 use Rattle.ev_typing.specs.Sequents.{◌⊢◌, ◌▹◌}
 use Rattle.ev_typing.specs.BaseSequents.{IsBaseSequent, under}
 use Rattle.ev_congruence.specs.Settings.{HasShiftRoom}
 use Rattle.ev_congruence.proofs.Appending.{extended_derivation, extends_twice, concluded_base}
 use Rattle.ev_congruence.proofs.Idle.{hyps_fit, goal_fits, room_exists, exists_base, witness_base, for_some_row}
-use Rattle.std.proofs.Common.{◌≤◌, ◌∷◌, length, refl}
+use Rattle.std.proofs.Common.{◌≤◌, ◌∷◌}
 use Rattle.std.specs.List.{AllByRecursion}
-use Rattle.ev_forms.specs.Forms.{vars_above}
 use Rattle.ev_typing.specs.declared.typing.Sequent.{Sequent}
-use Rattle.ev_congruence.specs.Limits.{IsWithin, TermsAreWithin}
+use Rattle.ev_congruence.specs.Limits.{IsWithin}
 use Rattle.ev_congruence.specs.Witnesses.{inhabiting}
 use Rattle.ev_congruence.proofs.Within.{within_by}
 use Rattle.ev_congruence.proofs.witnesses.idle_for_some.Goals as goal

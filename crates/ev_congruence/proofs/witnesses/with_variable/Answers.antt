@@ -1,8 +1,7 @@
-use Rattle.std.proofs.Common.{◌∙◌, ap, sym, ◌++◌, ◌∷◌, [], map, subst as transport, ◌≤◌}
+use Rattle.std.proofs.Common.{◌∙◌, ap, ◌++◌, ◌∷◌, [], map}
 use Rattle.ev_terms.specs.Types.{type_list}
 use Rattle.ev_terms.specs.Substitution.{shift}
 use Rattle.ev_typing.specs.TypeLists.{types}
-use Rattle.ev_typing.proofs.Laws.{types-type_list}
 use Rattle.ev_congruence.proofs.Contexts.{by_parts}
 use Rattle.ev_congruence.proofs.Idle.{pushed_context}
 use Rattle.ev_congruence.proofs.witnesses.with_variable.Goals as goal

@@ -1,4 +1,4 @@
-use Rattle.std.proofs.Common.{◌∙◌, ap, sym, Some, refl, subst as transport}
+use Rattle.std.proofs.Common.{◌∙◌, ap, sym, Some, subst as transport}
 use Rattle.std.proofs.lemmas.Result.{IfOk-weaker}
 use Rattle.ev_forms.specs.Forms.{truth, exists}
 use Rattle.ev_typing.specs.Sequents.{◌⊢◌, ◌▹◌}
