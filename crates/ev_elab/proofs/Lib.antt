@@ -5,3 +5,4 @@ pub mod OwnNames
 pub mod UnknownLaws
 pub mod Taking
 pub mod Heading
+pub mod FormulaAnswers

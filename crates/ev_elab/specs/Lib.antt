@@ -1,5 +1,14 @@
+pub mod DeclaredNames
+pub mod States
+pub mod Scopes
+pub mod Imports
 pub mod Types
 pub mod Parts
 pub mod Unknown
 pub mod Taken
+pub mod Names
+pub mod Formulas
+pub mod Readings
+pub mod Faults
+pub mod Elaborated
 pub mod inner
