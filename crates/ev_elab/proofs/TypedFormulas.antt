@@ -66,7 +66,7 @@ optional_read params env vars (Some raw) None p r = absurd r
 optional_read params env vars (Some raw) (Some t) p r = formula_read params env vars Prop raw t p r
 
 -- The type of a typed term is proper, or that of predicates.
-all_get : {X : Type 0} (P : X → Type 0) (xs : List X) (i : ℕ) (x : X) → AllByRecursion P xs → slice_get xs i ≡ Some x → P x
+pub all_get : {X : Type 0} (P : X → Type 0) (xs : List X) (i : ℕ) (x : X) → AllByRecursion P xs → slice_get xs i ≡ Some x → P x
 all_get P [] i x h e = cc
 all_get P (y ∷ xs) zero x h e = let q : y ≡ x = cc in transport P q h.0
 all_get P (y ∷ xs) (suc i) x h e = all_get P xs i x h.1 e
