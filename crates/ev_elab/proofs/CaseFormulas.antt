@@ -1,5 +1,5 @@
 -- The bodies of a recursive operator's cases are typed by the operator's own numbers, where its signature is known.
-use Rattle.std.specs.Prelude.{◌≡◌, ◌<◌, ◌≤◌, ◌+◌, ◌==◌, ◌++◌, ℕ, zero, suc, Bool as Boolean, true, false, cond, if◌then◌else◌, List, [], ◌∷◌, Option, Some, None, map, length, take, drop, zip, slice_get, find, option_map, option_and_then, bytes_eq, IsSomeAnd, refl}
+use Rattle.std.specs.Prelude.{◌≡◌, ◌<◌, ◌≤◌, ◌+◌, ◌==◌, ◌++◌, ℕ, zero, suc, Bool as Boolean, true, false, cond, if◌then◌else◌, List, [], ◌∷◌, Option, Some, None, map, length, take, drop, zip, slice_get, find, option_map, bytes_eq, IsSomeAnd, refl}
 use Rattle.std.specs.Option.{unwrap_or}
 use Rattle.std.specs.List.{AllByRecursion, AllZip}
 use Rattle.std.proofs.Common.{ap, sym, ◌∙◌, subst as transport, arith}

@@ -92,7 +92,7 @@ module _ (recursive : RecursiveFollows) where
         let (q, (w, m, f, p)) = g in
         transport (MayFollow s.env) (sym p) (tt, inference_follows s.params s.env vars givens raw w f)
 
-    element_follows_by : (form : ElementForm) (x : Element) → IsElementOf s form x → IsFromText form → MayFollow s.env x
+    pub element_follows_by : (form : ElementForm) (x : Element) → IsElementOf s form x → IsFromText form → MayFollow s.env x
     element_follows_by form x h t =
         form_follows form h.recursion x (or_none (list_any (type_unknown s.params) (written_types s.env form)) _ h.read.names.in_scope).0
         (declared_free s form h.read.names.free) h.read.reads h.admitted h.fits t
@@ -107,7 +107,7 @@ module _ (recursive : RecursiveFollows) where
   part_follows s u (Bad k) x h t = absurd h
   part_follows s u (Read form) x h t = element_follows_by recursive s u form x h t
 
-  parts_follow : (s : State) → IsSound s.env → (raws : List RawElement) (xs : List Element) → AreElements s raws xs → AllByRecursion IsPartFromText raws → MayFollowAll s.env xs × IsSound (with_elements s.env xs)
+  pub parts_follow : (s : State) → IsSound s.env → (raws : List RawElement) (xs : List Element) → AreElements s raws xs → AllByRecursion IsPartFromText raws → MayFollowAll s.env xs × IsSound (with_elements s.env xs)
   parts_follow s u [] [] h t = (tt, u)
   parts_follow s u [] (x ∷ xs) h t = absurd h
   parts_follow s u (raw ∷ raws) [] h t = absurd h

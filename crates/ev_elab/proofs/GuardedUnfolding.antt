@@ -1,5 +1,5 @@
 -- A guarded term is guarded unfolded, where no unfolded body calls the operator.
-use Rattle.std.specs.Prelude.{◌≡◌, ◌≤◌, ◌<◌, ◌+◌, ◌-◌, ◌++◌, ℕ, zero, suc, nat_lt, if◌then◌else◌, Bool as Boolean, true, false, List, [], ◌∷◌, Option, Some, None, map, length, reverse, slice_get, bytes_eq, option_map, IsTrue, IsSomeAnd, refl}
+use Rattle.std.specs.Prelude.{◌≡◌, ◌≤◌, ◌<◌, ◌+◌, ◌-◌, ℕ, zero, suc, nat_lt, if◌then◌else◌, Bool as Boolean, true, false, List, [], ◌∷◌, Option, Some, None, map, reverse, slice_get, bytes_eq, option_map, IsTrue, refl}
 use Rattle.std.specs.List.{AllByRecursion}
 use Rattle.std.proofs.Common.{ap, sym, ◌∙◌, subst as transport, true≢false, arith}
 use Rattle.std.proofs.lemmas.Bool.Decides.{nat_tests}
@@ -7,13 +7,11 @@ use Rattle.ev_terms.specs.declared.types.Ty.{Ty}
 use Rattle.ev_terms.specs.declared.types.Tys.{Tys}
 use Rattle.ev_terms.specs.declared.types.Sym.{Sym}
 use Rattle.ev_terms.specs.declared.types.Sym.TheVariants.{Base, User}
-use Rattle.ev_terms.specs.Types.{type_list}
 use Rattle.ev_terms.specs.Term.{Term, Terms, var, lit, node, nil, cons, term_list}
 use Rattle.ev_terms.specs.Symbols.{binds}
-use Rattle.ev_terms.specs.Substitution.{shift_var, shift, shifts, lift, lifts, inst, insts, entry, fill, instance, retype, retypes, type_inst, type_at}
+use Rattle.ev_terms.specs.Substitution.{shift_var, shift, shifts, lifts, inst, insts, entry, instance, retype, retypes, type_inst, type_at}
 use Rattle.ev_typing.specs.declared.typing.Signature.{Signature}
 use Rattle.ev_typing.specs.Profiles.{Profile}
-use Rattle.ev_typing.specs.TypeLists.{own_types}
 use Rattle.ev_typing.specs.Env.{Env, Name, look_up, profile}
 use Rattle.ev_typing.specs.Typing.{Typed, AreTyped, inside}
 use Rattle.ev_typing.proofs.Names.{same_name}
