@@ -27,28 +27,14 @@ use Rattle.ev_elab.specs.Taken.{declared_formulas}
 use Rattle.ev_elab.specs.Types.{Head, read_head}
 use Rattle.ev_elab.specs.Readings.{Recursion, ReadsElement, ReadsBody, ReadsRecursive, ReadsOptional}
 use Rattle.ev_elab.specs.Faults.{IsAdmitted, IsWithinLimits, IsElementOf, IsElement}
-use Rattle.ev_elab.specs.Elaborated.{AreElements, IsTheory, IsSoundTheory}
+use Rattle.ev_elab.specs.Elaborated.{AreElements}
+use Rattle.ev_elab.specs.Written.{IsFromText, IsPartFromText}
 use Rattle.ev_elab.proofs.Gathering.{or_none}
 use Rattle.ev_elab.proofs.NewNames.{AreFree, declared_free}
 use Rattle.ev_elab.proofs.RulesFollow.{closed_formula, rewrite_follows, inference_follows}
 use Rattle.ev_elab.proofs.OperatorsFollow.{constant_follows, direct_follows}
 use Rattle.ev_elab.proofs.DatatypesFollow.{data_follows}
 use Rattle.ev_elab.proofs.SoundAfter.{sound_after}
-
--- What a form has since it was read from a text: fewer than 2^30 arguments, and at least one right side of a rewrite rule.
-abbrev pub HasFewArgs : ElementForm → Type 0
-HasFewArgs (Datatype n listed cons) = AllByRecursion (λ (c : RawCon). length c.args < 2 ^ 30) cons
-HasFewArgs (Operator h c body) = length h.args < 2 ^ 30
-HasFewArgs (Constant h c) = length h.args < 2 ^ 30
-HasFewArgs _ = ⊤
-
-abbrev pub HasBranch : ElementForm → Type 0
-HasBranch (Rewrite n vars left branches complete) = branches ≢ []
-HasBranch _ = ⊤
-
-pub record IsFromText (form : ElementForm) : Type 0 where
-  pub few : HasFewArgs form
-  pub branch : HasBranch form
 
 -- A recursive operator that is read, admitted and within the limits may follow.
 abbrev pub RecursiveFollows : Type 0
@@ -97,11 +83,7 @@ module _ (recursive : RecursiveFollows) where
         form_follows form h.recursion x (or_none (list_any (type_unknown s.params) (written_types s.env form)) _ h.read.names.in_scope).0
         (declared_free s form h.read.names.free) h.read.reads h.admitted h.fits t
 
--- The same of the parts of a theory's text.
-abbrev pub IsPartFromText : RawElement → Type 0
-IsPartFromText (Bad k) = ⊤
-IsPartFromText (Read form) = IsFromText form
-
+-- The parts of a theory's text.
 module _ (recursive : RecursiveFollows) where
   part_follows : (s : State) → IsSound s.env → (raw : RawElement) (x : Element) → IsElement s raw x → IsPartFromText raw → MayFollow s.env x
   part_follows s u (Bad k) x h t = absurd h
@@ -115,8 +97,3 @@ module _ (recursive : RecursiveFollows) where
       let f = part_follows s u raw x h.0 t.0 in
       let g = parts_follow (after s x) (sound_after s.env u x f) raws xs h.1 t.1 in
       ((f, g.0), g.1)
-
-  pub theory_sound_by : (scope : List (List Reached)) (raws : List RawElement) (T : Theory) → IsSound (env_of (reached_elements scope)) → AllByRecursion IsPartFromText raws → IsTheory scope raws T → IsSoundTheory scope T
-  theory_sound_by scope raws T u t h =
-      let p = parts_follow (start scope) u raws T.elements h.elements t in
-      record { scope_sound = u; follow = p.0; sound = p.1 }

@@ -32,7 +32,12 @@ use Rattle.ev_elab.proofs.GoodHeads.{head_read, head_good, head_condition, condi
 use Rattle.ev_elab.proofs.Wider.{optional_over}
 use Rattle.ev_elab.proofs.CaseFormulas.{inductive_is, cases_read}
 use Rattle.ev_elab.proofs.RecursiveFollow.{cases_good, inductive₂, bodies_guarded, bodies_good, bodies_typed, entry_has_all}
-use Rattle.ev_elab.proofs.ElementsFollow.{IsFromText, IsPartFromText, RecursiveFollows, element_follows_by, parts_follow, theory_sound_by}
+use Rattle.ev_elab.specs.Written.{IsFromText, IsPartFromText}
+use Rattle.ev_elab.specs.Scopes.{IsScope}
+use Rattle.ev_elab.specs.TheoryLaws.{TheoryIsSound}
+use Rattle.ev_elab.proofs.ElementsFollow.{RecursiveFollows, element_follows_by, parts_follow}
+use Rattle.ev_elab.proofs.Standing.{sound_all, empty_sound}
+use Rattle.ev_elab.proofs.Together.{scope_follows}
 
 at_some : {X : Type 0} (P : X → Type 0) (o : Option X) (x : X) → o ≡ Some x → P x → IsSomeAnd o P
 at_some P o x e h = transport (λ q. IsSomeAnd q P) (sym e) h
@@ -87,5 +92,9 @@ pub elements_follow : (scope : List (List Reached)) (raws : List RawElement) (es
     MayFollowAll (env_of (reached_elements scope)) es × IsSound (with_elements (env_of (reached_elements scope)) es)
 elements_follow scope raws es u t h = parts_follow recursive_follows (start scope) u raws es h t
 
-pub theory_sound : (scope : List (List Reached)) (raws : List RawElement) (T : Theory) → IsSound (env_of (reached_elements scope)) → AllByRecursion IsPartFromText raws → IsTheory scope raws T → IsSoundTheory scope T
-theory_sound scope raws T u t h = theory_sound_by recursive_follows scope raws T u t h
+pub theory_is_sound : TheoryIsSound
+theory_is_sound scope raws T s t h =
+    let below : MayFollowAll [] (reached_elements scope) = scope_follows scope raws s h.free in
+    let u : IsSound (env_of (reached_elements scope)) = sound_all [] (reached_elements scope) empty_sound below in
+    let p = elements_follow scope raws T.elements u t h.elements in
+    record { scope_follows = below; scope_sound = u; follow = p.0; sound = p.1 }

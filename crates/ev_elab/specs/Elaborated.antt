@@ -57,9 +57,10 @@ abbrev pub IsFaulty : List (List Reached) → List RawElement → ℕ → Kind �
 IsFaulty scope raws n k =
     ((taken_import scope raws ≡ Some n) × (k ≡ kind.Taken)) ⊎ ((before : ℕ) × (n ≡ before + 1) × IsFirstFault scope raws before k)
 
--- the environment of the scope is sound, each element of the theory is typed, admitted and within the limits over the elements before it, and
--- the environment with all of them is sound
+-- the elements of the scope, and then those of the theory, are typed, admitted and within the limits, each over those before it, and the
+-- environments that they make are sound
 pub record IsSoundTheory (scope : List (List Reached)) (T : Theory) : Type 0 where
+  pub scope_follows : MayFollowAll [] (reached_elements scope)
   pub scope_sound : IsSound (env_of (reached_elements scope))
   pub follow : MayFollowAll (env_of (reached_elements scope)) T.elements
   pub sound : IsSound (with_elements (env_of (reached_elements scope)) T.elements)

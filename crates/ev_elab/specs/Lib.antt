@@ -11,4 +11,6 @@ pub mod Formulas
 pub mod Readings
 pub mod Faults
 pub mod Elaborated
+pub mod Written
+pub mod TheoryLaws
 pub mod inner

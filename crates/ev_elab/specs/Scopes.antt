@@ -5,8 +5,6 @@ use Rattle.ev_theory_text.specs.declared.forms.ElementForm.TheVariants.{Import}
 use Rattle.ev_theory_text.specs.declared.elements.RawElement.{RawElement}
 use Rattle.ev_theory_text.specs.declared.elements.RawElement.TheVariants.{Read}
 use Rattle.ev_typing.specs.Env.{Name}
-use Rattle.ev_data.specs.Sound.{IsSound}
-use Rattle.ev_ops.specs.Entries.{env_of}
 use Rattle.ev_ops.specs.Formulas.{MayFollowAll}
 use Rattle.ev_elab.specs.declared.theories.Reached.{Reached}
 use Rattle.ev_elab.specs.DeclaredNames.{entry_names}
@@ -22,13 +20,11 @@ import_count (_ ∷ raws) = import_count raws
 abbrev pub declared_names : Reached → List Name
 declared_names r = flat_map entry_names r.elements
 
--- a theory over some of those before it, which make a sound environment: its elements may follow theirs
+-- a theory that is elaborated over some of those before it: its elements may follow theirs
 pub record StandsOver (earlier : List Reached) (r : Reached) : Type 0 where
   pub below : List Reached
   pub among : AllByRecursion (Contains earlier) below
-  pub sound : IsSound (env_of (elements_of below))
-  pub follow : MayFollowAll (env_of (elements_of below)) r.elements
-  pub different : IsDistinct bytes_eq (flat_map declared_names (below ++ r ∷ []))
+  pub follow : MayFollowAll [] (elements_of (below ++ r ∷ []))
 
 -- each over those before it
 abbrev pub StandAfter : List Reached → List Reached → Type 0

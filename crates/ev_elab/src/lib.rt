@@ -11,8 +11,10 @@ pub mod readings;
 mod tables;
 mod taken;
 pub mod theories;
+mod theory_laws;
 mod unknown;
 
 pub use elaboration::{elaborate, scope_env};
 pub use faults::ElabFault;
 pub use theories::{Kind, Reached, ReachedList, Scope, Theory, TheorySequent, TheorySequents};
+pub use theory_laws::theories_are_sound;
