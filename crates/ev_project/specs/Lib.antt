@@ -1,0 +1,17 @@
+pub mod Projects
+pub mod Texts
+pub mod Contents
+pub mod Graphs
+pub mod Orders
+pub mod Scopes
+pub mod Needs
+pub mod Statuses
+pub mod Bulks
+pub mod Words
+pub mod Reports
+pub mod Changes
+pub mod Refusals
+pub mod Next
+pub mod Answers
+pub mod Kept
+pub mod Laws
