@@ -24,6 +24,7 @@ use Rattle.ev_elab.specs.DeclaredNames.{entry_names}
 use Rattle.ev_elab.specs.States.{all_reached, elements_of as elements_of_all, reached_elements}
 use Rattle.ev_elab.specs.Scopes.{import_count, declared_names, StandsOver, StandAfter, IsScope}
 use Rattle.ev_elab.specs.Elaborated.{IsSoundTheory}
+use Rattle.ev_elab.proofs.Standing.{follow_append}
 use Rattle.ev_project.specs.declared.projects.TheoryText.{TheoryText}
 use Rattle.ev_project.specs.Projects.{Project, has_text}
 use Rattle.ev_project.specs.Texts.{AreRead, is_among, import_elements}
@@ -38,29 +39,6 @@ use Rattle.ev_project.proofs.AcyclicLaws.{text_stands, import_of_read}
 use Rattle.ev_project.proofs.ReachLaws.{among_place}
 use Rattle.ev_project.proofs.OrderLaws.{in_order}
 use Rattle.ev_project.proofs.JoinLaws.{join, join_map, names_joined}
-
--- the names of an environment are those that its elements declare
-entry_names_are : (env : Env) (e : Element) → flat_map names (with_element env e) ≡ flat_map names env ++ entry_names e
-entry_names_are env (Importing n) = sym (append-nil (flat_map names env))
-entry_names_are env (Params ns) = sym (append-nil (flat_map names env))
-entry_names_are env (Data d) = flat_map-append names env _ ∙ ap (λ ns. flat_map names env ++ ns) (append-nil _ ∙ names_of_data d)
-entry_names_are env (Direct sig condition body) = flat_map-append names env _
-entry_names_are env (Recursive sig condition place bodies) = flat_map-append names env _
-entry_names_are env (Constant sig condition) = flat_map-append names env _
-entry_names_are env (Axiom label P) = sym (append-nil (flat_map names env))
-entry_names_are env (Theorem label P) = sym (append-nil (flat_map names env))
-entry_names_are env (Rewrite r) = sym (append-nil (flat_map names env))
-entry_names_are env (Inference r) = sym (append-nil (flat_map names env))
-
-names_with : (es : List Element) (env : Env) → flat_map names (with_elements env es) ≡ flat_map names env ++ flat_map entry_names es
-names_with [] env = sym (append-nil (flat_map names env))
-names_with (e ∷ es) env =
-    names_with es (with_element env e) ∙ ap (λ ns. ns ++ flat_map entry_names es) (entry_names_are env e)
-    ∙ append_assoc (flat_map names env) (entry_names e) (flat_map entry_names es)
-
-declared_by : (rs : List Reached) → flat_map declared_names rs ≡ flat_map entry_names (elements_of_all rs)
-declared_by [] = refl
-declared_by (r ∷ rs) = ap (λ ns. declared_names r ++ ns) (declared_by rs) ∙ sym (flat_map-append entry_names r.elements (elements_of_all rs))
 
 all_reached_is : (s : List (List Reached)) → all_reached s ≡ join s
 all_reached_is [] = refl
@@ -147,13 +125,10 @@ module _ (sound : TheoriesAreSound) (p : Project) (v : Contents) (kept : IsKept 
 
   -- a faulty theory stands over nothing
   faulty_stands : (earlier : List Reached) (r : Reached) → r.elements ≡ [] → StandsOver earlier r
-  unfolding IsDistinct
   faulty_stands earlier r none = record {
     below = [];
     among = tt;
-    sound = record { well_formed = empty_well_formed; admitted = tt };
     follow = rw none tt;
-    different = rw none tt;
   }
 
   -- one without a fault over those that it reaches
@@ -162,34 +137,19 @@ module _ (sound : TheoriesAreSound) (p : Project) (v : Contents) (kept : IsKept 
   good_stands before u T here is s within = record {
     below = below;
     among = all_map (Contains (map (reached_theory p v) before)) (reach u) (all_among (λ w. Contains (map (reached_theory p v) before) (reached_theory p v w)) (reach u) (λ w h. contains_theory before w (within w h)));
-    sound = subst IsSound env_is s.scope_sound;
-    follow = subst (λ e. MayFollowAll e (elements_of (v.elaboration u))) env_is (subst (λ es. MayFollowAll (env_of (reached_elements (scope p v u))) es) (sym elements_are) s.follow);
-    different = subst (IsDistinct bytes_eq) names_are s.sound.well_formed.distinct;
+    follow = subst (MayFollowAll []) elements_joined (follow_append [] (reached_elements (scope p v u)) T.elements s.scope_follows s.follow);
   }
     where
       below : List Reached
       below = map (reached_theory p v) (reach u)
 
-      env_is : env_of (reached_elements (scope p v u)) ≡ env_of (elements_of_all below)
-      env_is = ap (λ rs. env_of (elements_of_all rs)) (scope_is p v u here)
-
       elements_are : elements_of (v.elaboration u) ≡ T.elements
       elements_are = ap elements_of is
 
-      own_names : declared_names (reached_theory p v u) ++ [] ≡ flat_map entry_names T.elements
-      own_names = append-nil (declared_names (reached_theory p v u)) ∙ ap (flat_map entry_names) elements_are
-
-      split : flat_map declared_names (below ++ reached_theory p v u ∷ []) ≡ flat_map entry_names (elements_of_all below) ++ flat_map entry_names T.elements
-      split =
-          flat_map-append declared_names below (reached_theory p v u ∷ []) ∙ ap (λ ns. flat_map declared_names below ++ ns) own_names
-          ∙ ap (λ ns. ns ++ flat_map entry_names T.elements) (declared_by below)
-
-      names_are : flat_map names (with_elements (env_of (reached_elements (scope p v u))) T.elements) ≡ flat_map declared_names (below ++ reached_theory p v u ∷ [])
-      names_are =
-          names_with T.elements (env_of (reached_elements (scope p v u)))
-          ∙ ap (λ ns. ns ++ flat_map entry_names T.elements)
-          (names_with (reached_elements (scope p v u)) [] ∙ ap (λ rs. flat_map entry_names (elements_of_all rs)) (scope_is p v u here))
-          ∙ sym split
+      elements_joined : reached_elements (scope p v u) ++ T.elements ≡ elements_of_all (below ++ reached_theory p v u ∷ [])
+      elements_joined =
+          ap (λ rs. elements_of_all rs ++ T.elements) (scope_is p v u here) ∙ ap (λ es. elements_of_all below ++ es) (sym (append-nil (elements_of (v.elaboration u)) ∙ elements_are))
+          ∙ sym (flat_map-append (λ (r : Reached). r.elements) below (reached_theory p v u ∷ []))
 
   among_middle : (before after : List Name) (u : Name) → is_among (before ++ u ∷ after) u ≡ true
   among_middle before after u =
