@@ -29,7 +29,7 @@ use Rattle.ev_replay.specs.declared.scopes.Scope.{Scope}
 use Rattle.ev_replay.specs.StepForms.{IsBranchGoal, ByCases}
 use Rattle.ev_sound.specs.Unfoldings.{HasDerivableUnfolding, HaveDerivableUnfoldings}
 use Rattle.ev_sound.proofs.Established.{IsEstablished}
-use Rattle.ev_sound.proofs.Citable.{AreCitable}
+use Rattle.ev_sound.proofs.Citable.{IsCitable}
 use Rattle.ev_typing.specs.WellFormed.{IsWellFormed}
 use Rattle.ev_congruence.proofs.Terms.{append_nil}
 use Rattle.ev_sound.proofs.Congruence.{widened_none}
@@ -120,7 +120,7 @@ any_unfolded : (env : Env) (P : Term) (Ps : List Term) → U env (fold disj P Ps
 any_unfolded env P [] = refl
 any_unfolded env P (Q ∷ Qs) = any_unfolded env (disj P Q) Qs
 
-module _ (cs : Scope) (u : IsWellFormed cs.env) (e : AreCitable cs) where
+module _ (cs : Scope) (u : IsWellFormed cs.env) where
   -- the goal under the condition of one branch
   branch_sound : (S : Sequent) (place : List ℕ) (xs : List Ty) (A : Ty) (l : Term) (θ : ℕ → Ty) (ts : List Term) (old : Term) (b : Branch) (g : Sequent) → IsSequent cs.env S → IsSequent cs.env g → ((i : ℕ) → IsProper cs.env (θ i)) →
       AreTyped cs.env (type_list S.context) (terms ts) (map (type_inst θ) xs) → filled θ ts l ≡ old → node_at S.goal place ≡ Some old → path_types S.goal place ≡ Some [] →
@@ -184,14 +184,14 @@ module _ (cs : Scope) (u : IsWellFormed cs.env) (e : AreCitable cs) where
       from [] g = tt
       from (b ∷ bs') g = (g 0 b refl, from bs' (λ i c q. g (suc i) c q))
 
-  pub cases_sound : (S : Sequent) (ref : Ref) (place : List ℕ) (cite : Cite) (gs : List Sequent) (used : List Term) → IsSequent cs.env S → AllByRecursion (IsSequent cs.env) gs → ByCases cs S ref place cite gs used →
+  pub cases_sound : (ref : Ref) → IsCitable cs ref → (S : Sequent) (place : List ℕ) (cite : Cite) (gs : List Sequent) (used : List Term) → IsSequent cs.env S → AllByRecursion (IsSequent cs.env) gs → ByCases cs S ref place cite gs used →
       HaveDerivableUnfoldings cs.env gs → HasDerivableUnfolding cs.env S
-  cases_sound S ref place cite gs used h g b d =
+  cases_sound ref e S place cite gs used h g b d =
       let ids = element_params (element.Rewrite b.r) in
       let xs = type_list b.r.vars in
       let A = type_in cs.env xs b.r.left in
       let at = place_typed cs.env place (type_list S.context) S.goal b.old [] Prop h.goal b.stands b.no_binder in
       let old_typed : Typed cs.env (type_list S.context) b.old at.type = transport (λ D. Typed cs.env D b.old at.type) (append_nil (type_list S.context)) at.typed in
       by_conditions S place ids xs A b.r.left b.As b.ts b.old h (rule_types cs u (type_list S.context) ids xs b.r.left cite b.As b.ts b.old at.type b.fits old_typed)
-      b.fits.typed b.fits.is_instance b.stands b.no_binder b.r.branches gs (e.branched ref b.r b.may) b.goals_are g
-      (each_established xs A b.r.left b.r.branches (λ i x q. e.branches ref b.r i x b.may q)) (e.complete ref b.r b.may b.complete) d
+      b.fits.typed b.fits.is_instance b.stands b.no_binder b.r.branches gs (e.branched b.r b.may) b.goals_are g
+      (each_established xs A b.r.left b.r.branches (λ i x q. e.branches b.r i x b.may q)) (e.complete b.r b.may b.complete) d

@@ -26,7 +26,11 @@ pub mod Twice
 pub mod Written
 pub mod Reading
 pub mod Citable
+pub mod Goals
 pub mod Scoping
 pub mod Table
 pub mod Cases
 pub mod Whole
+pub mod Sequents
+pub mod OverWhole
+pub mod Cited

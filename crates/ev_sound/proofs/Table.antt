@@ -34,7 +34,7 @@ use Rattle.ev_replay.specs.Scopes.{IsScope}
 use Rattle.ev_proof.specs.declared.steps.Ref.{Ref}
 use Rattle.ev_proof.specs.declared.steps.Cite.{Cite}
 use Rattle.ev_sound.specs.Unfoldings.{HasDerivableUnfolding, HaveDerivableUnfoldings}
-use Rattle.ev_sound.proofs.Citable.{AreCitable}
+use Rattle.ev_sound.proofs.Citable.{IsCitable}
 use Rattle.ev_congruence.proofs.Terms.{proper_list, list_proper, some_out}
 use Rattle.ev_sound.proofs.Rows.{U, US}
 use Rattle.ev_sound.proofs.Cong.{head_of, tail_of}
@@ -99,20 +99,20 @@ module _ (cs : Scope) (u : IsWellFormed cs.env) where
       by (inl m) = matched_proper cs.env ids As pattern ts D A m.2.all_params (transport (λ x. Typed cs.env D x A) (sym m.2.is_instance) h)
       by (inr g) = assigned_proper cs.env ids As (types_proper cs.env cs.params cite.types As g.types_read)
 
-  pub inference_sound : AreCitable cs → (S : Sequent) (ref : Ref) (cite : Cite) (gs : List Sequent) (used : List Term) → IsSequent cs.env S → ByInference cs S ref cite gs used → HaveDerivableUnfoldings cs.env gs → HasDerivableUnfolding cs.env S
-  inference_sound e S ref cite gs used h b d =
+  pub inference_sound : (ref : Ref) → IsCitable cs ref → (S : Sequent) (cite : Cite) (gs : List Sequent) (used : List Term) → IsSequent cs.env S → ByInference cs S ref cite gs used → HaveDerivableUnfoldings cs.env gs → HasDerivableUnfolding cs.env S
+  inference_sound ref e S cite gs used h b d =
       infer_sound cs.env u S (type_list b.r.vars) b.r.givens b.r.conclusion (assigned (element_params (element.Inference b.r)) b.As) b.ts h
       (rule_types (type_list S.context) (element_params (element.Inference b.r)) (type_list b.r.vars) b.r.conclusion cite b.As b.ts S.goal Prop b.fits h.goal)
-      b.fits.typed b.fits.is_instance (e.inferences ref b.r b.may) (transport (HaveDerivableUnfoldings cs.env) b.goals_are d)
+      b.fits.typed b.fits.is_instance (e.inference b.r b.may) (transport (HaveDerivableUnfoldings cs.env) b.goals_are d)
 
   -- A branch of a rewrite rule.
   same_condition : (W : Sequent) (f : Term → Term) (o : Option Term) → condition_goal cs W f o ≡ condition_goal_of W f o
   same_condition W f None = refl
   same_condition W f (Some C) = refl
 
-  pub rewriting_sound : AreCitable cs → (S : Sequent) (ref : Ref) (i : ℕ) (place : List ℕ) (cite : Cite) (gs : List Sequent) (used : List Term) → IsSequent cs.env S → AllByRecursion (IsSequent cs.env) gs →
+  pub rewriting_sound : (ref : Ref) → IsCitable cs ref → (S : Sequent) (i : ℕ) (place : List ℕ) (cite : Cite) (gs : List Sequent) (used : List Term) → IsSequent cs.env S → AllByRecursion (IsSequent cs.env) gs →
       ByRewriting cs S ref i place cite gs used → HaveDerivableUnfoldings cs.env gs → HasDerivableUnfolding cs.env S
-  rewriting_sound e S ref i place cite gs used h g b d =
+  rewriting_sound ref e S i place cite gs used h g b d =
       let at = b.rewritten in
       let ids = element_params (element.Rewrite b.r) in
       let θ = assigned ids b.As in
@@ -123,7 +123,7 @@ module _ (cs : Scope) (u : IsWellFormed cs.env) where
       rewrite_sound cs.env u S place (type_list b.r.vars) b.b.condition (type_in cs.env (type_list b.r.vars) b.r.left) b.r.left b.b.right θ b.ts b.Bs b.old b.after.goal h
       (transport (IsSequent cs.env) at.otherwise_same g') p.proper
       (rule_types (type_list S.context ++ b.Bs) ids (type_list b.r.vars) b.r.left cite b.As b.ts b.old p.type b.fits p.typed)
-      b.fits.typed b.fits.is_instance at.stands at.binders at.replaced (e.branches ref b.r i b.b b.may b.branch)
+      b.fits.typed b.fits.is_instance at.stands at.binders at.replaced (e.branches b.r i b.b b.may b.branch)
       (transport (HaveDerivableUnfoldings cs.env) (same_condition (widened S b.Bs) (filled θ b.ts) b.b.condition) d'.0)
       (transport (HasDerivableUnfolding cs.env) at.otherwise_same d'.1)
 
