@@ -1,12 +1,11 @@
 -- The elements of a theory that is elaborated may follow those of its scope and those before them.
-use Rattle.std.specs.Prelude.{◌≡◌, ◌≢◌, ◌<◌, ◌^◌, false, List, [], ◌∷◌, Option, Some, length, ⊤}
+use Rattle.std.specs.Prelude.{◌≡◌, ◌<◌, ◌^◌, false, List, [], ◌∷◌, Option, Some, length}
 use Rattle.std.specs.List.{AllByRecursion, list_any}
 use Rattle.std.proofs.Common.{sym, subst as transport}
 use Rattle.ev_terms.specs.Term.{Term}
 use Rattle.ev_syntax.specs.Raw.{Raw}
 use Rattle.ev_theory_text.specs.declared.elements.RawElement.{RawElement}
 use Rattle.ev_theory_text.specs.declared.elements.RawElement.TheVariants.{Read, Bad}
-use Rattle.ev_theory_text.specs.declared.forms.RawCon.{RawCon}
 use Rattle.ev_theory_text.specs.declared.forms.RawHead.{RawHead}
 use Rattle.ev_theory_text.specs.declared.forms.RawCase.{RawCase}
 use Rattle.ev_theory_text.specs.declared.forms.RawBody.{RawBody}
@@ -16,11 +15,9 @@ use Rattle.ev_theory_text.specs.declared.forms.ElementForm.TheVariants.{Import, 
 use Rattle.ev_typing.specs.Env.{Env, Name}
 use Rattle.ev_data.specs.Sound.{IsSound}
 use Rattle.ev_rules.specs.declared.elements.Element.{Element}
-use Rattle.ev_ops.specs.Entries.{with_element, with_elements, env_of}
+use Rattle.ev_ops.specs.Entries.{with_element, with_elements}
 use Rattle.ev_ops.specs.Formulas.{MayFollow, MayFollowAll}
-use Rattle.ev_elab.specs.declared.theories.Reached.{Reached}
-use Rattle.ev_elab.specs.declared.theories.Theory.{Theory}
-use Rattle.ev_elab.specs.States.{State, start, after, reached_elements}
+use Rattle.ev_elab.specs.States.{State, after}
 use Rattle.ev_elab.specs.Unknown.{type_unknown}
 use Rattle.ev_elab.specs.Parts.{head_types, written_types}
 use Rattle.ev_elab.specs.Taken.{declared_formulas}

@@ -1,5 +1,5 @@
 -- Inference answers no unknown name where none is.
-use Rattle.std.specs.Prelude.{◌≡◌, ◌≢◌, ◌↔◌, ℕ, Bool, true, false, List, reverse, Result, Ok, Err, refl}
+use Rattle.std.specs.Prelude.{◌≡◌, ◌≢◌, ◌↔◌, Bool, true, false, List, reverse, Result, Err}
 use Rattle.std.proofs.Common.{ap, sym, ◌∙◌, true≢false}
 use Rattle.std.proofs.lemmas.List.{reverse-reverse}
 use Rattle.ev_terms.specs.Term.{Term}
@@ -9,7 +9,7 @@ use Rattle.ev_typing.specs.Env.{Env, Name}
 use Rattle.ev_resolve.specs.UsedNames.{variable_names}
 use Rattle.ev_resolve.specs.inner.Unknown.{uses_unknown}
 use Rattle.ev_infer.specs.declared.faults.InferFault.{InferFault}
-use Rattle.ev_infer.specs.declared.faults.InferFault.TheVariants.{Unknown, Taken, IllTyped, Ambiguous, TooLarge, NoMemory}
+use Rattle.ev_infer.specs.declared.faults.InferFault.TheVariants.{Unknown, NoMemory}
 use Rattle.ev_infer.specs.Answers.{variables, IsUnknown}
 use Rattle.ev_infer.proofs.Answering.{in_scope}
 

@@ -6,7 +6,7 @@ use Rattle.ev_theory_text.specs.declared.forms.ElementForm.{ElementForm}
 use Rattle.ev_theory_text.specs.declared.forms.ElementForm.TheVariants.{Import, Param, Datatype, Operator, Constant, Axiom, Theorem, Rewrite, Inference}
 use Rattle.ev_parse.specs.Sequences.{AtLeastOne}
 use Rattle.ev_theory_text.specs.Elements.{ReadsBranch, ReadsForm}
-use Rattle.ev_elab.proofs.ElementsFollow.{HasBranch}
+use Rattle.ev_elab.specs.Written.{HasBranch}
 
 some_branch : (branches : List RawBranch) (ts rest : List Token) → AtLeastOne ReadsBranch branches ts rest → branches ≢ []
 some_branch [] ts rest h e = h

@@ -1,5 +1,5 @@
 -- What the readers of types and heads need.
-use Rattle.std.specs.Prelude.{◌≡◌, ◌++◌, ℕ, suc, ◌+◌, ◌-◌, ◌<◌, ◌≤◌, Bool, true, false, if◌then◌else◌, List, [], ◌∷◌, Option, Some, None, map, option_map, refl}
+use Rattle.std.specs.Prelude.{◌≡◌, ◌++◌, ℕ, suc, ◌+◌, ◌-◌, ◌<◌, ◌≤◌, List, [], ◌∷◌, Option, Some, None, map, option_map, refl}
 use Rattle.std.specs.List.{range_with_len}
 use Rattle.std.proofs.Common.{ap, sym, ◌∙◌, append_assoc, arith}
 use Rattle.std.proofs.lemmas.List.{map-append}
@@ -7,13 +7,10 @@ use Rattle.ev_terms.specs.declared.types.Ty.{Ty}
 use Rattle.ev_terms.specs.declared.types.Tys.{Tys}
 use Rattle.ev_terms.specs.Types.{type_list}
 use Rattle.ev_typing.specs.TypeLists.{types}
-use Rattle.ev_typing.specs.Env.{Env}
-use Rattle.ev_typing.specs.Typing.{IsProper}
-use Rattle.ev_typing.specs.Proper.{is_proper}
 use Rattle.ev_typing.proofs.Names.{drop_at, drop_all}
 use Rattle.ev_typing.proofs.Laws.{types-type_list}
 use Rattle.ev_typing.proofs.Proper.{proper_from_test, test_from_proper}
-use Rattle.ev_elab.specs.Types.{all_of, if_proper}
+use Rattle.ev_elab.specs.Types.{all_of}
 
 pub ruleset proper = (proper_from_test, test_from_proper)
 

@@ -20,12 +20,11 @@ use Rattle.ev_ops.specs.Unfold.{unfold_by, bodies_after}
 use Rattle.ev_ops.specs.Entries.{with_element, with_elements, env_of}
 use Rattle.ev_ops.specs.Formulas.{IsFormula, MayFollow, MayFollowAll}
 use Rattle.ev_elab.specs.declared.theories.Reached.{Reached}
-use Rattle.ev_elab.specs.declared.theories.Theory.{Theory}
 use Rattle.ev_elab.specs.States.{State, start, reached_elements}
 use Rattle.ev_elab.specs.Types.{head_ids, own_list, signature_of, by_own}
 use Rattle.ev_elab.specs.Readings.{cases_of, bodies_for}
 use Rattle.ev_elab.specs.Faults.{IsAdmitted, HasSmallEquation, IsWithinLimits, IsElementOf}
-use Rattle.ev_elab.specs.Elaborated.{AreElements, IsTheory, IsSoundTheory}
+use Rattle.ev_elab.specs.Elaborated.{AreElements}
 use Rattle.ev_elab.proofs.ProperArgs.{args_proper}
 use Rattle.ev_elab.proofs.NewNames.{new_names}
 use Rattle.ev_elab.proofs.GoodHeads.{head_read, head_good, head_condition, condition_good}
@@ -33,7 +32,6 @@ use Rattle.ev_elab.proofs.Wider.{optional_over}
 use Rattle.ev_elab.proofs.CaseFormulas.{inductive_is, cases_read}
 use Rattle.ev_elab.proofs.RecursiveFollow.{cases_good, inductive₂, bodies_guarded, bodies_good, bodies_typed, entry_has_all}
 use Rattle.ev_elab.specs.Written.{IsFromText, IsPartFromText}
-use Rattle.ev_elab.specs.Scopes.{IsScope}
 use Rattle.ev_elab.specs.TheoryLaws.{TheoryIsSound}
 use Rattle.ev_elab.proofs.ElementsFollow.{RecursiveFollows, element_follows_by, parts_follow}
 use Rattle.ev_elab.proofs.Standing.{sound_all, empty_sound}

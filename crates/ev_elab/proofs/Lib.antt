@@ -28,3 +28,4 @@ pub mod Together
 pub mod TypedFormulas
 pub mod Wider
 pub mod WrittenNumbers
+pub mod FromText

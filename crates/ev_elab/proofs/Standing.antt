@@ -18,22 +18,21 @@ use Rattle.ev_typing.specs.declared.typing.DataDecl.{DataDecl}
 use Rattle.ev_typing.specs.declared.typing.Con.{Con}
 use Rattle.ev_typing.specs.Profiles.{Profile}
 use Rattle.ev_typing.specs.Env.{Env, Name, Symbol, ConOf, DesOf, ConstantOf, DirectOf, RecursiveOf, look_up, names, symbols, declares, declaring, find_data, find_symbol, field_types, symbol_profile, profile}
-use Rattle.ev_typing.specs.Typing.{IsProper, AreProper, Typed, AreTyped, inside}
+use Rattle.ev_typing.specs.Typing.{Typed, AreTyped, inside}
 use Rattle.ev_typing.specs.Proper.{IsResult}
 use Rattle.ev_typing.specs.Occurs.{is_direct_symbol, is_direct, IsPlain, ArePlain}
 use Rattle.ev_typing.specs.Parts.{IsPartOf, HasDistinctNames}
-use Rattle.ev_typing.specs.WellFormed.{HasNewNames, AreGoodFields, IsGoodSignature, IsGoodTerm, IsGoodCondition, IsGoodBody, IsGoodEntry, AreGoodBodies, IsWellFormed, data_of, inductive_data, case_context}
+use Rattle.ev_typing.specs.WellFormed.{HasNewNames, AreGoodFields, IsGoodSignature, IsGoodTerm, IsGoodCondition, IsGoodEntry, IsWellFormed, data_of, inductive_data, case_context}
 use Rattle.ev_typing.proofs.Names.{same_name, name_same, empty_well_formed, all_append, append_nil, apart_declared, well_formed_with}
 use Rattle.ev_typing.proofs.Entries.{symbols_named, find_symbol-declaring}
 use Rattle.ev_typing.proofs.Wholes.{HasAll, whole_has_all, found_whole, found_part, proper_over, all_proper_over, typed_over}
-use Rattle.ev_data.specs.Sound.{IsSound, IsAdmittedEntry, AreGuardedBodies}
-use Rattle.ev_data.specs.Guarded.{IsGuardedBody}
+use Rattle.ev_data.specs.Sound.{IsSound, IsAdmittedEntry}
 use Rattle.ev_rules.specs.declared.elements.Element.{Element}
 use Rattle.ev_rules.specs.declared.elements.Element.TheVariants.{Import, Params, Data, Direct, Recursive, Constant, Axiom, Theorem, Rewrite, Inference}
 use Rattle.ev_rules.specs.declared.elements.Branch.{Branch}
-use Rattle.ev_ops.specs.Unfold.{Bodies, unfold_by, bodies_after, unfolded}
+use Rattle.ev_ops.specs.Unfold.{Bodies, unfold_by, bodies_after}
 use Rattle.ev_ops.specs.Entries.{entry_by, entry_of, with_entry, with_element, with_elements, env_of}
-use Rattle.ev_ops.specs.Formulas.{IsFormula, IsOptional, AreBodies, IsBranch, IsRewriteRule, IsInferenceRule, HasFormulas, IsNewEntry, MayFollow, MayFollowAll}
+use Rattle.ev_ops.specs.Formulas.{IsFormula, IsOptional, HasFormulas, IsNewEntry, MayFollow, MayFollowAll}
 use Rattle.ev_ops.proofs.Basics.{contains_more, contains_first}
 use Rattle.ev_ops.proofs.Fitting.{contains_front, contains_last, body_found, found_body}
 use Rattle.ev_ops.proofs.UnfoldEquation.{alike, good_at, look_up_split}

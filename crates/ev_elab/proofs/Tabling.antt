@@ -1,6 +1,5 @@
 -- Tables of names that are filled from the end of a list.
 use Rattle.std.specs.Prelude.{◌≡◌, ◌||◌, ℕ, zero, suc, ◌+◌, ◌-◌, ◌<◌, ◌≤◌, Bool, true, false, cond, not, List, [], ◌∷◌, length, drop, bytes_eq, refl}
-use Rattle.std.specs.List.{list_any}
 use Rattle.std.proofs.Common.{ap, sym, ◌∙◌, get_or, arith}
 use Rattle.ev_typing.specs.Env.{Name}
 use Rattle.ev_typing.proofs.Names.{drop_at}

@@ -1,14 +1,13 @@
 -- The theories that are reached make one sound environment.
-use Rattle.std.specs.Prelude.{◌≡◌, ◌≢◌, ◌+◌, ◌++◌, ◌||◌, ◌&&◌, ◌<◌, ℕ, zero, suc, Bool as Boolean, true, false, not, if◌then◌else◌, List, [], ◌∷◌, Option, Some, None, map, flat_map, length, get_or, bytes_eq, Contains, refl}
+use Rattle.std.specs.Prelude.{◌≡◌, ◌+◌, ◌++◌, ◌||◌, ◌&&◌, ◌<◌, ℕ, zero, suc, Bool as Boolean, true, false, not, if◌then◌else◌, List, [], ◌∷◌, Some, None, map, flat_map, length, get_or, bytes_eq, Contains, refl}
 use Rattle.std.specs.List.{AllByRecursion, IsDistinct, list_any, enumerate_from}
 use Rattle.std.proofs.Common.{ap, sym, ◌∙◌, subst as transport, append_assoc, arith, true≢false}
 use Rattle.std.proofs.lemmas.Grind.{flat_map-append}
 use Rattle.ev_typing.specs.declared.typing.Con.{Con}
 use Rattle.ev_typing.specs.declared.typing.DataDecl.{DataDecl}
 use Rattle.ev_typing.specs.declared.typing.Var.{Var}
-use Rattle.ev_typing.specs.Env.{Env, Name, Symbol, DesOf, con_symbols, declaring, names}
+use Rattle.ev_typing.specs.Env.{Name, Symbol, DesOf, con_symbols, declaring}
 use Rattle.ev_typing.proofs.Names.{append_nil, all_append, apart_flip}
-use Rattle.ev_theory_text.specs.declared.forms.ElementForm.{ElementForm}
 use Rattle.ev_theory_text.specs.declared.forms.ElementForm.TheVariants.{Import, Param, Datatype, Operator, Constant as ConstantForm, Axiom as AxiomForm, Theorem as TheoremForm, Rewrite as RewriteForm, Inference as InferenceForm}
 use Rattle.ev_theory_text.specs.declared.elements.RawElement.{RawElement}
 use Rattle.ev_theory_text.specs.declared.elements.RawElement.TheVariants.{Read, Bad}
@@ -20,9 +19,9 @@ use Rattle.ev_ops.specs.Entries.{env_of}
 use Rattle.ev_ops.specs.Formulas.{MayFollowAll}
 use Rattle.ev_ops.proofs.Basics.{contains_first, contains_more}
 use Rattle.ev_elab.specs.declared.theories.Reached.{Reached}
-use Rattle.ev_elab.specs.DeclaredNames.{con_names, data_names, entry_names}
+use Rattle.ev_elab.specs.DeclaredNames.{con_names, entry_names}
 use Rattle.ev_elab.specs.States.{all_reached, elements_of, reached_elements}
-use Rattle.ev_elab.specs.Scopes.{import_count, declared_names, StandsOver, StandAfter, IsScope}
+use Rattle.ev_elab.specs.Scopes.{import_count, declared_names, StandAfter, IsScope}
 use Rattle.ev_elab.specs.Imports.{clash, import_clashes, taken_import_from, taken_import}
 use Rattle.ev_elab.proofs.Standing.{declared_by, AreUndeclared, undeclared_after, follow_more, member_holds, sound_all, empty_sound}
 

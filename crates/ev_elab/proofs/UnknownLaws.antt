@@ -1,5 +1,5 @@
 -- The tests of an element's names, and the definition of names that are not in scope.
-use Rattle.std.specs.Prelude.{◌≡◌, ◌||◌, ◌&&◌, ◌++◌, ℕ, Bool, true, false, not, List, [], ◌∷◌, Option, Some, None, length, flat_map, map, refl}
+use Rattle.std.specs.Prelude.{◌≡◌, ◌||◌, ◌++◌, ℕ, Bool, true, false, not, List, [], ◌∷◌, Option, Some, None, length, flat_map, map, refl}
 use Rattle.std.specs.List.{list_any}
 use Rattle.std.proofs.Common.{ap, sym, ◌∙◌}
 use Rattle.std.proofs.lemmas.List.Folds.{list_any-append}
@@ -19,9 +19,9 @@ use Rattle.ev_typing.specs.Env.{Env, Name}
 use Rattle.ev_typing.proofs.Names.{drop_at, drop_all}
 use Rattle.ev_resolve.specs.UsedNames.{type_names, type_params, used_names, used_params}
 use Rattle.ev_elab.specs.Types.{with_data}
-use Rattle.ev_elab.specs.Parts.{WrittenType, arg_names, arg_types, result_types, head_types, formula_in, optional, with_name, case_names, formula_of_case, formulas_of_body, formulas_of_branch}
+use Rattle.ev_elab.specs.Parts.{arg_names, arg_types, result_types, head_types, formula_in, optional, case_names, formula_of_case, formulas_of_body, formulas_of_branch}
 use Rattle.ev_elab.specs.Unknown.{type_unknown, formula_unknown, body_unknown, element_unknown, is_no_param}
-use Rattle.ev_elab.specs.inner.Tests.{type_fails, arg_fails, con_fails, result_fails, head_fails, formula_fails, optional_fails, branch_fails, case_fails, con_unknown, by_unknown, body_fails, element_fails}
+use Rattle.ev_elab.specs.inner.Tests.{type_fails, arg_fails, con_fails, result_fails, head_fails, formula_fails, optional_fails, branch_fails, case_fails, body_fails, element_fails}
 use Rattle.ev_elab.proofs.OwnNames.{known_data, known_name}
 
 pub any_same : {X : Type 0} (p q : X → Bool) → ((x : X) → p x ≡ q x) → (xs : List X) → list_any p xs ≡ list_any q xs

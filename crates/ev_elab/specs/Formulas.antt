@@ -1,6 +1,5 @@
 -- The formulas of elements, each with the variables and the type that it has.
 use Rattle.std.specs.Prelude.{◌++◌, ℕ, List, [], ◌∷◌, Option, Some, None, bytes_eq, find, map, length, option_map, option_and_then, position, zip, if◌then◌else◌, ◌==◌, slice_get}
-use Rattle.ev_terms.specs.declared.extents.Extent.{Extent}
 use Rattle.ev_terms.specs.declared.types.Ty.{Ty, Prop}
 use Rattle.ev_terms.specs.declared.types.Tys.{Tys}
 use Rattle.ev_terms.specs.Term.{Term}

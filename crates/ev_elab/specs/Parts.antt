@@ -1,5 +1,5 @@
 -- The types and formulas of an element as they are written, each where its names are looked up.
-use Rattle.std.specs.Prelude.{◌++◌, ℕ, not, List, [], ◌∷◌, Option, Some, None, bytes_eq, cond, map, filter, flat_map, length}
+use Rattle.std.specs.Prelude.{◌++◌, not, List, [], ◌∷◌, Option, Some, None, bytes_eq, cond, map, filter, flat_map, length}
 use Rattle.ev_terms.specs.declared.types.Ty.{Prop}
 use Rattle.ev_terms.specs.declared.types.Tys.{Empty}
 use Rattle.ev_syntax.specs.Raw.{RawType, Raw}

@@ -1,5 +1,5 @@
 -- What a part of a theory has since it was read from a text, by the grammar and by the length of the text.
-use Rattle.std.specs.Prelude.{◌<◌, ◌≢◌, ◌^◌, ℕ, List, [], length, ⊤}
+use Rattle.std.specs.Prelude.{◌<◌, ◌≢◌, ◌^◌, [], length, ⊤}
 use Rattle.std.specs.List.{AllByRecursion}
 use Rattle.ev_theory_text.specs.declared.elements.RawElement.{RawElement}
 use Rattle.ev_theory_text.specs.declared.elements.RawElement.TheVariants.{Read, Bad}

@@ -1,17 +1,13 @@
 -- The scope of each theory of a project is one over which texts may be elaborated.
-use Rattle.std.specs.Prelude.{◌≡◌, ◌<◌, ◌^◌, ◌++◌, ℕ, Ok, Err, Bool as Boolean, true, false, ◌||◌, List, [], ◌∷◌, Some, Contains, map, flat_map, length, find, option_map, bytes_eq, refl, if◌then◌else◌}
+use Rattle.std.specs.Prelude.{◌≡◌, ◌<◌, ◌^◌, ◌++◌, ℕ, Ok, Err, Bool as Boolean, true, false, ◌||◌, List, [], ◌∷◌, Some, Contains, map, length, find, option_map, bytes_eq, refl, if◌then◌else◌}
 use Rattle.std.specs.List.{AllByRecursion, IsDistinct}
 use Rattle.std.proofs.Common.{inl, inr, sym, ap, subst, ◌∙◌, true≢false, arith}
 use Rattle.std.proofs.lemmas.Bool.{cases_Bool}
 use Rattle.std.proofs.lemmas.List.{append-nil, append_assoc, length-map, get_or-map}
 use Rattle.std.proofs.lemmas.List.Folds.{list_any-append}
 use Rattle.std.proofs.lemmas.Grind.{flat_map-append}
-use Rattle.ev_typing.specs.Env.{Env, Name, names}
-use Rattle.ev_typing.proofs.Names.{same_name, name_same, names_of_data, empty_well_formed}
-use Rattle.ev_data.specs.Sound.{IsSound}
-use Rattle.ev_rules.specs.declared.elements.Element.{Element}
-use Rattle.ev_rules.specs.declared.elements.Element.TheVariants.{Import as Importing, Params, Data, Direct, Recursive, Constant, Axiom, Theorem, Rewrite, Inference}
-use Rattle.ev_ops.specs.Entries.{with_element, with_elements, env_of}
+use Rattle.ev_typing.specs.Env.{Name}
+use Rattle.ev_typing.proofs.Names.{same_name, name_same}
 use Rattle.ev_ops.specs.Formulas.{MayFollowAll}
 use Rattle.ev_theory_text.specs.declared.forms.ElementForm.TheVariants.{Import}
 use Rattle.ev_theory_text.specs.declared.elements.RawElement.{RawElement}
@@ -20,9 +16,8 @@ use Rattle.ev_theory_text.specs.Theories.{import_names}
 use Rattle.ev_imports.specs.Reached.{visit, reached_by_each}
 use Rattle.ev_elab.specs.declared.theories.Theory.{Theory}
 use Rattle.ev_elab.specs.declared.theories.Reached.{Reached}
-use Rattle.ev_elab.specs.DeclaredNames.{entry_names}
 use Rattle.ev_elab.specs.States.{all_reached, elements_of as elements_of_all, reached_elements}
-use Rattle.ev_elab.specs.Scopes.{import_count, declared_names, StandsOver, StandAfter, IsScope}
+use Rattle.ev_elab.specs.Scopes.{import_count, StandsOver, StandAfter, IsScope}
 use Rattle.ev_elab.specs.Elaborated.{IsSoundTheory}
 use Rattle.ev_elab.proofs.Standing.{follow_append}
 use Rattle.ev_project.specs.declared.projects.TheoryText.{TheoryText}

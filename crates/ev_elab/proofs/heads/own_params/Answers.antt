@@ -1,9 +1,7 @@
-use Rattle.std.specs.Prelude.{map}
-use Rattle.std.specs.List.{range_with_len}
-use Rattle.std.proofs.Common.{◌≡◌, ◌++◌, ◌∷◌, [], ◌∙◌, ap, arith}
+use Rattle.std.proofs.Common.{◌++◌, ◌∷◌, [], ◌∙◌, ap, arith}
 use Rattle.ev_terms.specs.declared.types.Ty.{Param}
 use Rattle.ev_elab.specs.Types.{own_number}
-use Rattle.ev_elab.proofs.Heading.{own_more, own_done, types_from}
+use Rattle.ev_elab.proofs.Heading.{own_more, own_done}
 use Rattle.ev_elab.proofs.heads.own_params.Goals as goal
 
 pub loop-i-preserved : goal.loop-i-preserved

@@ -1,5 +1,4 @@
-use Rattle.std.specs.Prelude.{not}
-use Rattle.std.proofs.Common.{◌≡◌, ◌∙◌, ◌-◌, ◌<◌, ap, sym, arith, get_or}
+use Rattle.std.proofs.Common.{◌∙◌, ◌-◌, ap, sym, arith, get_or}
 use Rattle.ev_elab.proofs.Tabling.{one_more, apart_more, found_again}
 use Rattle.ev_elab.proofs.tables.repeats.Goals as goal
 

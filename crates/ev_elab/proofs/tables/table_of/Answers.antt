@@ -1,4 +1,4 @@
-use Rattle.std.proofs.Common.{◌≡◌, ◌∙◌, ◌-◌, ap, sym, arith, get_or}
+use Rattle.std.proofs.Common.{◌∙◌, ◌-◌, ap, sym, arith, get_or}
 use Rattle.ev_elab.proofs.Tabling.{one_more}
 use Rattle.ev_elab.proofs.tables.table_of.Goals as goal
 

@@ -1,6 +1,3 @@
-use Rattle.std.proofs.Common.{◌≡◌, ◌∙◌}
-use Rattle.std.specs.Prelude.{bytes_eq}
-use Rattle.indexmap.specs.IndexSet.{contains}
 use Rattle.ev_elab.proofs.Taking.{cases_told}
 use Rattle.ev_elab.proofs.taken.cases_taken.Goals as goal
 

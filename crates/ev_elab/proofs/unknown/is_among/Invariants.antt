@@ -1,4 +1,3 @@
-use Rattle.std.specs.List.{list_any}
 use Rattle.std.proofs.Common.{◌≡◌, drop}
 use Rattle.ev_resolve.specs.UsedNames.{is_name_among}
 use Rattle.ev_elab.proofs.unknown.is_among.Given as goal
