@@ -66,7 +66,7 @@ all_members {X} xs = each xs (λ x c. c)
     each [] g = tt
     each (y ∷ ys) g = (g y (contains_first y ys), each ys (λ x c. g x (contains_more x y ys c)))
 
-member_holds : {X : Type 0} (P : X → Type 0) (xs : List X) (x : X) → AllByRecursion P xs → Contains xs x → P x
+pub member_holds : {X : Type 0} (P : X → Type 0) (xs : List X) (x : X) → AllByRecursion P xs → Contains xs x → P x
 member_holds P xs x h (k, l, q) = at xs h k x l q
   where
     at : (ys : List _) → AllByRecursion P ys → (j : ℕ) (y : _) → j < length ys → get_or ys j y ≡ y → P y

@@ -34,3 +34,4 @@ pub mod Whole
 pub mod Sequents
 pub mod OverWhole
 pub mod Cited
+pub mod Positions
