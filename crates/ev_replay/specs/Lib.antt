@@ -5,3 +5,4 @@ pub mod RuleSteps
 pub mod StepForms
 pub mod Steps
 pub mod Replay
+pub mod inner

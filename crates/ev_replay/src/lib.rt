@@ -2,8 +2,16 @@
 //! Extension in Event-B, in outline; the steps are this project's own.
 #![tactic(auto)]
 
+mod by_formula;
+mod equality;
+mod labels;
+mod propositional;
+mod quantifiers;
+mod reading;
 pub mod scopes;
+mod sequents;
 pub mod steps;
 
+pub use labels::cites;
 pub use scopes::{CiteElement, CiteElements, CiteScope, Scope};
 pub use steps::{Applied, Outcome};

@@ -1,0 +1,4 @@
+pub mod Finding
+pub mod Applying
+pub mod Replaying
+pub mod Labels
