@@ -1,5 +1,5 @@
 -- Contexts with further types behind, and chosen hypotheses.
-use Rattle.std.specs.Prelude.{◌≡◌, ◌<◌, ◌≤◌, ◌+◌, ◌++◌, ℕ, zero, suc, List, [], ◌∷◌, Option, Some, None, length, take, refl}
+use Rattle.std.specs.Prelude.{◌≡◌, ◌<◌, ◌≤◌, ◌+◌, ◌++◌, ℕ, zero, suc, List, [], ◌∷◌, Some, None, length, take, refl}
 use Rattle.std.specs.List.{AllZip}
 use Rattle.std.proofs.Common.{ap, sym, ◌∙◌, arith, get_or}
 use Rattle.ev_terms.specs.declared.types.Ty.{Ty}

@@ -1,11 +1,11 @@
 -- Equations as the code makes them, and those between the children of two terms.
-use Rattle.std.specs.Prelude.{◌≡◌, ◌<◌, ◌≤◌, ◌+◌, ◌++◌, ℕ, zero, suc, List, [], ◌∷◌, Option, Some, None, length, drop, map, option_map, IfOk, Result, Ok, Err, refl}
+use Rattle.std.specs.Prelude.{◌≡◌, ◌<◌, ◌≤◌, ◌+◌, ◌++◌, ℕ, suc, List, [], ◌∷◌, Option, Some, None, length, drop, option_map, IfOk, Result, Ok, Err, refl}
 use Rattle.std.specs.List.{AllByRecursion}
 use Rattle.std.proofs.Common.{ap, sym, ◌∙◌, subst as transport, arith, get_or, append_assoc}
 use Rattle.ev_terms.specs.declared.types.Ty.{Ty, Int, Bool, Prop, Param, Data}
 use Rattle.ev_terms.specs.declared.types.Tys.{Tys, Empty}
 use Rattle.ev_terms.specs.declared.types.Tys.TheVariants.{More}
-use Rattle.ev_terms.specs.Types.{pow, prod, more, type_list, More-more}
+use Rattle.ev_terms.specs.Types.{pow, prod, type_list, More-more}
 use Rattle.ev_terms.specs.declared.types.Sym.{Sym}
 use Rattle.ev_terms.specs.Term.{Term, node, cons, nil, terms, term_list, term_list-terms}
 use Rattle.ev_terms.specs.Symbols.{binds}

@@ -5,7 +5,6 @@ use Rattle.ev_terms.specs.Term.{Term, types_of}
 use Rattle.ev_forms.specs.Forms.{neg, conj, disj, imp, iff, forall, exists, equation}
 use Rattle.ev_forms.proofs.FormViews.{equated_at, equation_types}
 use Rattle.ev_kernel.proofs.Binding.{one_type}
-use Rattle.ev_kernel.proofs.Equations.{same_sides}
 
 pub one_neg : (P Q : Term) → neg P ≡ neg Q → P ≡ Q
 one_neg P Q e = cc

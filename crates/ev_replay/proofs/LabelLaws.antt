@@ -1,7 +1,7 @@
 -- Labels that are cited, kept by pairs of names.
-use Rattle.std.specs.Prelude.{◌≡◌, ◌++◌, ◌&&◌, ◌||◌, ℕ, Bool as Boolean, List, [], ◌∷◌, bytes_eq, map, if◌then◌else◌, refl}
+use Rattle.std.specs.Prelude.{◌≡◌, ◌++◌, ◌&&◌, ◌||◌, ℕ, Bool as Boolean, List, [], ◌∷◌, bytes_eq, if◌then◌else◌, refl}
 use Rattle.std.specs.List.{list_any}
-use Rattle.std.proofs.Common.{ap, sym, ◌∙◌, true, false}
+use Rattle.std.proofs.Common.{ap, ◌∙◌, true, false}
 use Rattle.ev_proof.specs.declared.steps.Ref.{Ref}
 use Rattle.ev_replay.specs.Replay.{same_ref, with_ref}
 use Rattle.ev_replay.specs.inner.Labels.{ref_of, refs_of}

@@ -5,3 +5,4 @@ pub mod LabelLaws
 pub mod Readings
 pub mod Quantified
 pub mod Equations
+pub mod StepAnswers

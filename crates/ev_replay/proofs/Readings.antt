@@ -1,6 +1,6 @@
 -- Variables of contexts, and what the answers of inference say of the only annotation.
-use Rattle.std.specs.Prelude.{◌≡◌, ◌≢◌, ◌↔◌, ◌<◌, ◌≤◌, ◌+◌, ◌++◌, ℕ, List, [], ◌∷◌, Option, Some, None, Result, Ok, Err, IfOk, length, drop, codes, decimal, refl}
-use Rattle.std.proofs.Common.{ap, sym, ◌∙◌, arith, get_or, append_assoc, inl, inr}
+use Rattle.std.specs.Prelude.{◌≡◌, ◌≢◌, ◌↔◌, ◌<◌, ◌≤◌, ◌+◌, ◌++◌, ℕ, List, [], ◌∷◌, Option, Some, None, Result, Err, length, drop, codes, decimal}
+use Rattle.std.proofs.Common.{ap, sym, ◌∙◌, get_or, append_assoc}
 use Rattle.ev_terms.specs.declared.extents.Extent.{Extent}
 use Rattle.ev_terms.specs.declared.types.Ty.{Ty}
 use Rattle.ev_terms.specs.Term.{Term}

@@ -1,10 +1,10 @@
 -- What the proof of a sequent may cite.
-use Rattle.std.specs.Prelude.{◌≡◌, ◌-◌, ◌&&◌, Bool as Boolean, true, false, List, ◌∷◌, Option, Some, None, find, map, take, length, bytes_eq, option_map, if◌then◌else◌, []}
+use Rattle.std.specs.Prelude.{◌≡◌, ◌-◌, ◌&&◌, Bool as Boolean, false, List, ◌∷◌, Option, Some, None, find, map, take, length, bytes_eq, option_map, if◌then◌else◌, []}
 use Rattle.std.specs.List.{AllByRecursion}
 use Rattle.std.specs.Option.{option_or}
 use Rattle.ev_terms.specs.Term.{Term}
 use Rattle.ev_rules.specs.declared.elements.Element.{Element}
-use Rattle.ev_rules.specs.declared.elements.Element.TheVariants.{Import, Params, Data, Direct, Recursive, Constant, Axiom, Theorem, Rewrite, Inference}
+use Rattle.ev_rules.specs.declared.elements.Element.TheVariants.{Recursive, Axiom, Theorem, Rewrite, Inference}
 use Rattle.ev_typing.specs.Env.{Name}
 use Rattle.ev_ops.specs.Entries.{env_of}
 use Rattle.ev_ops.specs.Formulas.{HasFormulas}

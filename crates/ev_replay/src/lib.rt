@@ -2,6 +2,7 @@
 //! Extension in Event-B, in outline; the steps are this project's own.
 #![tactic(auto)]
 
+mod applying;
 mod by_formula;
 mod equality;
 mod labels;
@@ -12,6 +13,7 @@ pub mod scopes;
 mod sequents;
 pub mod steps;
 
+pub use applying::apply;
 pub use labels::cites;
 pub use scopes::{CiteElement, CiteElements, CiteScope, Scope};
 pub use steps::{Applied, Outcome};

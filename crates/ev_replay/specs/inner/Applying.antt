@@ -6,7 +6,6 @@ use Rattle.ev_typing.specs.declared.typing.Sequent.{Sequent}
 use Rattle.ev_typing.specs.Typing.{IsSequent}
 use Rattle.ev_proof.specs.declared.steps.Step.{Step}
 use Rattle.ev_replay.specs.declared.scopes.Scope.{Scope}
-use Rattle.ev_replay.specs.RuleSteps.{GivesByRule}
 use Rattle.ev_replay.specs.Steps.{Gives}
 use Rattle.ev_replay.specs.inner.Finding.{OnlyAmong}
 
@@ -14,7 +13,3 @@ module _ (cs : Scope) (S : Sequent) (step : Step) where
   -- the subgoals that the step gives, where they are well typed
   abbrev pub Found : Option (List Sequent) → Type 0
   Found o = OnlyAmong (AllByRecursion (IsSequent cs.env)) (λ gs. (used : List Term) × Gives cs S step gs used) o
-
-  -- the same of a step by a base rule
-  abbrev pub FoundByRule : Option (List Sequent) → Type 0
-  FoundByRule o = OnlyAmong (AllByRecursion (IsSequent cs.env)) (GivesByRule cs.env cs.params S step) o

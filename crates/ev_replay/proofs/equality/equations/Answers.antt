@@ -4,7 +4,7 @@ use Rattle.ev_terms.specs.Types.{type_list}
 use Rattle.ev_forms.specs.Forms.{equation}
 use Rattle.ev_typing.specs.Typing.{Typed}
 use Rattle.ev_typing.specs.Sequents.{◌⊢◌}
-use Rattle.std.proofs.Common.{[], ◌++◌, sym, ◌∙◌, ap, subst, refl}
+use Rattle.std.proofs.Common.{subst}
 use Rattle.ev_replay.proofs.Equations.{equate_lengths, equate_next, equate_stops, equate_whole}
 use Rattle.ev_replay.proofs.equality.equations.Goals as goal
 
