@@ -6,3 +6,4 @@ pub mod Readings
 pub mod Quantified
 pub mod Equations
 pub mod StepAnswers
+pub mod ReplayLaws

@@ -9,11 +9,13 @@ mod labels;
 mod propositional;
 mod quantifiers;
 mod reading;
+mod replaying;
 pub mod scopes;
 mod sequents;
 pub mod steps;
 
 pub use applying::apply;
 pub use labels::cites;
+pub use replaying::replay;
 pub use scopes::{CiteElement, CiteElements, CiteScope, Scope};
 pub use steps::{Applied, Outcome};
