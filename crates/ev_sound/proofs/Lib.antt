@@ -35,3 +35,4 @@ pub mod Sequents
 pub mod OverWhole
 pub mod Cited
 pub mod Positions
+pub mod Claims
