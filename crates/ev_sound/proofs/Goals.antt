@@ -59,7 +59,7 @@ use Rattle.ev_sound.proofs.Connectives.{conj_typed, imp_typed}
 use Rattle.ev_sound.proofs.Citable.{truth_typed, condition_typed, all_together_typed, branch_typed, inference_typed, covering_typed}
 
 -- Members of lists.
-all_members : {X : Type 0} (xs : List X) → AllByRecursion (Contains xs) xs
+pub all_members : {X : Type 0} (xs : List X) → AllByRecursion (Contains xs) xs
 all_members {X} xs = each xs (λ x c. c)
   where
     each : (ys : List X) → ((x : X) → Contains ys x → Contains xs x) → AllByRecursion (Contains xs) ys

@@ -36,3 +36,4 @@ pub mod OverWhole
 pub mod Cited
 pub mod Positions
 pub mod Claims
+pub mod Needed

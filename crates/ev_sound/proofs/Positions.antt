@@ -39,19 +39,23 @@ use Rattle.ev_sound.proofs.Sequents.{SequentAt, is_called, find_stands, sequent_
 use Rattle.ev_sound.proofs.Cited.{but_last}
 
 -- Lists.
-map_both : {X Y : Type 0} (f : X → Y) (xs ys : List X) → map f (xs ++ ys) ≡ map f xs ++ map f ys
+pub map_both : {X Y : Type 0} (f : X → Y) (xs ys : List X) → map f (xs ++ ys) ≡ map f xs ++ map f ys
 map_both f [] ys = refl
 map_both f (x ∷ xs) ys = ap (λ zs. f x ∷ zs) (map_both f xs ys)
 
-take_front : {X : Type 0} (xs : List X) (x : X) (ys : List X) → take (suc (length xs)) (xs ++ x ∷ ys) ≡ xs ++ x ∷ []
+pub take_front : {X : Type 0} (xs : List X) (x : X) (ys : List X) → take (suc (length xs)) (xs ++ x ∷ ys) ≡ xs ++ x ∷ []
 take_front [] x ys = refl
 take_front (z ∷ zs) x ys = ap (λ ws. z ∷ ws) (take_front zs x ys)
 
-plain_elements : (n : Name) (es : List Element) → map (λ (c : CiteElement). c.element) (cite_elements n es) ≡ es
+pub pred_is : (n : ℕ) → pred n ≡ n - 1
+pred_is zero = refl
+pred_is (suc n) = omega arith
+
+pub plain_elements : (n : Name) (es : List Element) → map (λ (c : CiteElement). c.element) (cite_elements n es) ≡ es
 plain_elements n [] = refl
 plain_elements n (e ∷ es) = ap (λ xs. e ∷ xs) (plain_elements n es)
 
-plain_all : (E : Name → List Element) (us : List Name) → map (λ (c : CiteElement). c.element) (flat_map (λ u. cite_elements u (E u)) us) ≡ flat_map E us
+pub plain_all : (E : Name → List Element) (us : List Name) → map (λ (c : CiteElement). c.element) (flat_map (λ u. cite_elements u (E u)) us) ≡ flat_map E us
 plain_all E [] = refl
 plain_all E (u ∷ us) =
     map_both (λ (c : CiteElement). c.element) (cite_elements u (E u)) (flat_map (λ x. cite_elements x (E x)) us)
