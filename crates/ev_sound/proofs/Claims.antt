@@ -1,12 +1,11 @@
 -- What is cited is needed, and what is needed and proved holds.
-use Rattle.std.specs.Prelude.{◌≡◌, ◌≢◌, ◌+◌, ◌-◌, ◌++◌, ◌&&◌, ◌||◌, ◌<◌, ℕ, zero, suc, Bool as Boolean, true, false, cond, if◌then◌else◌, List, [], ◌∷◌, Option, Some, None, map, filter, flat_map, fold, find, take, length, pred, get_or, bytes_eq, option_map, Contains, ⊤, refl}
-use Rattle.std.specs.List.{AllByRecursion, list_any}
-use Rattle.std.proofs.Common.{ap, sym, ◌∙◌, subst as transport, append_assoc, arith}
-use Rattle.ev_typing.specs.Env.{Env, Name}
-use Rattle.ev_typing.proofs.Names.{same_name, name_same, append_nil, all_append}
+use Rattle.std.specs.Prelude.{◌≡◌, ◌++◌, ◌&&◌, ◌||◌, zero, suc, Bool as Boolean, true, false, if◌then◌else◌, List, [], ◌∷◌, Option, Some, None, map, filter, flat_map, fold, bytes_eq, Contains, refl}
+use Rattle.std.specs.List.{list_any}
+use Rattle.std.proofs.Common.{ap, sym, ◌∙◌, subst as transport, arith}
+use Rattle.ev_typing.specs.Env.{Name}
+use Rattle.ev_typing.proofs.Names.{same_name, name_same}
 use Rattle.ev_ops.proofs.Basics.{contains_first, contains_more}
 use Rattle.ev_ops.proofs.Fitting.{contains_front}
-use Rattle.ev_script.specs.declared.sequent_names.SeqName.{SeqName}
 use Rattle.ev_proof.specs.declared.steps.Ref.{Ref}
 use Rattle.ev_proof.specs.declared.steps.Step.{Step}
 use Rattle.ev_replay.specs.Replay.{step_ref, same_ref, with_ref, with_step, with_line, cites}

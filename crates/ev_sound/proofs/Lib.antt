@@ -37,3 +37,5 @@ pub mod Cited
 pub mod Positions
 pub mod Claims
 pub mod Needed
+pub mod Proved
+pub mod Headlines

@@ -1,11 +1,11 @@
 -- What the proof of a sequent cites is needed, and holds where all that is needed is proved.
-use Rattle.std.specs.Prelude.{◌≡◌, ◌≢◌, ◌+◌, ◌-◌, ◌++◌, ◌&&◌, ◌<◌, ℕ, zero, suc, Bool as Boolean, true, false, cond, if◌then◌else◌, List, [], ◌∷◌, Option, Some, None, map, filter, flat_map, find, take, length, pred, get_or, bytes_eq, option_map, Contains, ⊤, refl}
-use Rattle.std.specs.List.{AllByRecursion, list_any}
+use Rattle.std.specs.Prelude.{◌≡◌, ◌≢◌, ◌+◌, ◌-◌, ◌++◌, ℕ, zero, suc, Bool as Boolean, true, false, cond, if◌then◌else◌, List, [], ◌∷◌, Option, Some, map, filter, flat_map, find, take, length, bytes_eq, option_map, Contains, ⊤, refl}
+use Rattle.std.specs.List.{AllByRecursion}
 use Rattle.std.proofs.Common.{ap, sym, ◌∙◌, subst as transport, append_assoc, arith}
 use Rattle.ev_typing.specs.Env.{Env, Name}
 use Rattle.ev_typing.specs.Typing.{IsPredicate}
 use Rattle.ev_typing.specs.Parts.{IsPartOf}
-use Rattle.ev_typing.proofs.Names.{same_name, name_same, append_nil, all_append}
+use Rattle.ev_typing.proofs.Names.{name_same, append_nil, all_append}
 use Rattle.ev_data.specs.Sound.{IsSound}
 use Rattle.ev_terms.specs.declared.obligation.ObKind.{ObKind}
 use Rattle.ev_rules.specs.declared.elements.Element.{Element}
@@ -18,7 +18,6 @@ use Rattle.ev_oblig.specs.Obligations.{obligations}
 use Rattle.ev_script.specs.declared.sequent_names.SeqName.{SeqName}
 use Rattle.ev_proof.specs.declared.steps.Ref.{Ref}
 use Rattle.ev_proof.specs.declared.steps.Step.{Step}
-use Rattle.ev_replay.specs.declared.scopes.Scope.{Scope}
 use Rattle.ev_replay.specs.declared.scopes.CiteElement.{CiteElement}
 use Rattle.ev_replay.specs.Scopes.{is_labelled, is_named, cited}
 use Rattle.ev_replay.specs.Replay.{cites}
@@ -37,12 +36,12 @@ use Rattle.ev_sound.specs.Unfoldings.{HoldsUnfolded}
 use Rattle.ev_sound.proofs.Goals.{member_holds, all_members}
 use Rattle.ev_sound.proofs.Sequents.{StandsIn, in_front, behind, stands_append, IsClaimKind, has_kind, is_called, ClaimAt, claim_at, find_stands}
 use Rattle.ev_sound.proofs.OverWhole.{holds_over}
-use Rattle.ev_sound.proofs.Cited.{but_last, IsOwn, CitedFrom, reached, earlier, cited_from}
-use Rattle.ev_sound.proofs.Positions.{position, map_both, take_front, plain_elements, plain_all, pred_is, elements_append, all_formulas, own_goals, own, reach, below, IsSoundAt, Position, citable_are, env_is, listed, listed_follow, listed_sound, scope_sound}
-use Rattle.ev_sound.proofs.Claims.{stands_behind, map_stands, flat_stands, filter_stands, stands_filter, refs_same, ref_same, any_stands, stands_any}
+use Rattle.ev_sound.proofs.Cited.{but_last, CitedFrom, reached, earlier, cited_from}
+use Rattle.ev_sound.proofs.Positions.{position, map_both, take_front, plain_elements, plain_all, pred_is, elements_append, all_formulas, own_goals, own, reach, below, IsSoundAt, Position, citable_are, env_is, listed, listed_follow, scope_sound}
+use Rattle.ev_sound.proofs.Claims.{stands_behind, map_stands, flat_stands, filter_stands, stands_filter, stands_any}
 
 -- Lists.
-all_map : {X : Type 0} (P Q : X → Type 0) → ((x : X) → P x → Q x) → (xs : List X) → AllByRecursion P xs → AllByRecursion Q xs
+pub all_map : {X : Type 0} (P Q : X → Type 0) → ((x : X) → P x → Q x) → (xs : List X) → AllByRecursion P xs → AllByRecursion Q xs
 all_map P Q g [] h = tt
 all_map P Q g (x ∷ xs) h = (g x h.0, all_map P Q g xs h.1)
 
@@ -62,7 +61,7 @@ all_images : {X Y : Type 0} (f : X → Y) (xs ys : List X) → AllByRecursion (C
 all_images f [] ys h = tt
 all_images f (x ∷ xs) ys h = (map_stands f ys x h.0, all_images f xs ys h.1)
 
-find_passes : {X : Type 0} (f : X → Boolean) (xs : List X) (x : X) → find f xs ≡ Some x → f x ≡ true
+pub find_passes : {X : Type 0} (f : X → Boolean) (xs : List X) (x : X) → find f xs ≡ Some x → f x ≡ true
 find_passes f [] x h = cc
 find_passes f (y ∷ ys) x h = by (f y) refl h (find_passes f ys x)
   where
@@ -116,7 +115,7 @@ module _ (p : Project) (v : Contents) where
   scope_env : (u : Name) (k : ℕ) → (cite_scope p v u k).env ≡ env_of (below p v u ++ take k (own p v u))
   scope_env u k = ap env_of (offered_plain u (take k (own p v u)))
 
-  module _ (G : Name → Type 0) (sound_at : (n : Name) → G n → IsSoundAt p v n) (closed : (n u : Name) → G n → Contains (reach p v n) u → G u)
+  module _ (G : Name → Type 0) (sound_at : (n : Name) → G n → IsSoundAt p v n) (closed : (n u : Name) (e : Element) → G n → Contains (reach p v n) u → Contains (own p v u) e → G u)
       (within : (n u w : Name) → G n → Contains (reach p v n) u → Contains (reach p v u) w → Contains (reach p v n) w) where
     -- Where an element that is cited stands.
     pub record Source (n : Name) (before : List Element) (ref : Ref) (e : Element) : Type 0 where
@@ -138,7 +137,7 @@ module _ (p : Project) (v : Contents) where
         all_append (Contains (offered n before)) (flat_map (λ w. cite_elements w (own p v w)) (reach p v u)) (cite_elements u (own p v u))
         (all_flat (Contains (offered n before)) (λ w. cite_elements w (own p v w)) (reach p v u) (λ w c. block_in n w before (within n u w g m c))) (block_in n u before m)
 
-    source : (name : SeqName) (s : TheorySequent) (g : G name.theory) (q : Position p v name s) (ref : Ref) (e : Element) → cited (cite_scope p v name.theory s.element) ref ≡ Some e → Source name.theory q.at.before ref e
+    pub source : (name : SeqName) (s : TheorySequent) (g : G name.theory) (q : Position p v name s) (ref : Ref) (e : Element) → cited (cite_scope p v name.theory s.element) ref ≡ Some e → Source name.theory q.at.before ref e
     source name s g q ref e h =
         by (cited_from ref (own p v) (reach p v name.theory) name.theory q.at.before e
         (ap (λ es. option_map (λ (c : CiteElement). c.element) (find (is_named ref) es)) (sym (citable_are p v name s (sound_at name.theory g) q)) ∙ h))
@@ -147,7 +146,7 @@ module _ (p : Project) (v : Contents) where
         by (reached u m w) = record {
           theory = u;
           same = w.theory;
-          good = closed name.theory u g m;
+          good = closed name.theory u e g m (find_stands (is_labelled ref.label) (own p v u) e w.found);
           here = (sound_at name.theory g).texts u m;
           first = own p v u;
           rest = [];
@@ -167,6 +166,19 @@ module _ (p : Project) (v : Contents) where
           among = all_members (offered name.theory q.at.before);
         }
 
+    -- a label stands among those of the elements that may be cited and pass a test
+    pub label_stands : (name : SeqName) (s : TheorySequent) (g : G name.theory) (q : Position p v name s) (ref : Ref) (e : Element) (src : Source name.theory q.at.before ref e) → label_of e ≡ Some ref.label → (f : CiteElement → Boolean) →
+        f (record { theory = src.theory; element = e }) ≡ true → Contains (flat_map label_ref (filter f (citable (cite_scope p v name.theory s.element)))) ref
+    label_stands name s g q ref e src label f passes =
+        let item : CiteElement = record { theory = src.theory; element = e } in
+        let ref_is : ref ≡ record { theory = src.theory; label = ref.label } = ap (λ t. record { theory = t; label = ref.label }) src.same in
+        let stands : Contains (offered name.theory q.at.before) item =
+        member_holds (Contains (offered name.theory q.at.before)) (offered src.theory src.first) item src.among
+        (stands_behind (flat_map (λ u. cite_elements u (own p v u)) (reach p v src.theory)) (cite_elements src.theory src.first) item (map_stands (λ x. record { theory = src.theory; element = x }) src.first e (find_stands (is_labelled ref.label) src.first e src.found))) in
+        let there : Contains (citable (cite_scope p v name.theory s.element)) item = transport (λ es. Contains es item) (sym (citable_list name s (sound_at name.theory g) q)) stands in
+        let own_ref : Contains (label_ref item) ref = transport (λ l. Contains (with_theory src.theory l) ref) (sym label) (transport (Contains (record { theory = src.theory; label = ref.label } ∷ [])) (sym ref_is) (contains_first (record { theory = src.theory; label = ref.label }) [])) in
+        flat_stands label_ref (filter f (citable (cite_scope p v name.theory s.element))) item ref (filter_stands f (citable (cite_scope p v name.theory s.element)) item there passes) own_ref
+
     abbrev pub Holds : SeqName → TheorySequent → Type 0
     Holds name s = HoldsUnfolded (cite_scope p v name.theory s.element).env s.goal
 
@@ -176,7 +188,7 @@ module _ (p : Project) (v : Contents) where
       pub axioms_there : (s : TheorySequent) → find_sequent p v name ≡ Some s → AllByRecursion (Contains (axioms (cite_scope p v name.theory s.element))) (status_axioms st)
       pub some : st ≢ Assumed []
 
-    pub AreKnown : List SeqName → List Status → Type 0
+    abbrev pub AreKnown : List SeqName → List Status → Type 0
     AreKnown [] [] = ⊤
     AreKnown (name ∷ names) (st ∷ sts) = Known name st × AreKnown names sts
     AreKnown _ _ = ⊥
@@ -188,7 +200,6 @@ module _ (p : Project) (v : Contents) where
       pub stands : Contains sts status
 
     known_at : (names : List SeqName) (sts : List Status) → AreKnown names sts → AllByRecursion (λ st. is_fine st ≡ true) sts → (name : SeqName) → Contains names name → KnownAt sts name
-    unfolding AreKnown
     known_at [] sts h f name (k, l, q) = absurd (omega arith)
     known_at (n ∷ ns) [] h f name c = absurd h
     known_at (n ∷ ns) (st ∷ sts) h f name (zero, l, q) = record { status = st; known = transport (λ m. Known m st) q h.0; fine = f.0; stands = contains_first st sts }
@@ -203,7 +214,7 @@ module _ (p : Project) (v : Contents) where
       cs_env = (cite_scope p v name.theory s.element).env
 
       -- an axiom of the scope on which something leans would stand in the list
-      no_axiom : (r : Ref) → Contains (axioms (cite_scope p v name.theory s.element)) r → Contains (flat_map assume_refs lines ++ flat_map status_axioms sts) r → ⊥
+      pub no_axiom : (r : Ref) → Contains (axioms (cite_scope p v name.theory s.element)) r → Contains (flat_map assume_refs lines ++ flat_map status_axioms sts) r → ⊥
       no_axiom r c d = by (transport (λ rs. Contains rs r) none (filter_stands (has_ref (flat_map assume_refs lines ++ flat_map status_axioms sts)) (axioms (cite_scope p v name.theory s.element)) r c (stands_any (flat_map assume_refs lines ++ flat_map status_axioms sts) r d)))
         where
           by : Contains [] r → ⊥
@@ -284,19 +295,8 @@ module _ (p : Project) (v : Contents) where
             (parts all (listed p v name s (sound_at name.theory g) q) all_follow (listed_follow p v name s (sound_at name.theory g) q) all_listed)
 
         -- it is needed
-        ref_is : ref ≡ record { theory = src.theory; label = ref.label }
-        ref_is = ap (λ t. record { theory = t; label = ref.label }) src.same
-
         may_cite : Contains (claims (cite_scope p v name.theory s.element)) ref
-        may_cite =
-            let item : CiteElement = record { theory = src.theory; element = e } in
-            let stands : Contains (offered name.theory q.at.before) item =
-            member_holds (Contains (offered name.theory q.at.before)) (offered src.theory src.first) item src.among
-            (stands_behind (flat_map (λ u. cite_elements u (own p v u)) (reach p v src.theory)) (cite_elements src.theory src.first) item (map_stands (λ x. record { theory = src.theory; element = x }) src.first e (find_stands (is_labelled ref.label) src.first e src.found))) in
-            let there : Contains (citable (cite_scope p v name.theory s.element)) item = transport (λ es. Contains es item) (sym (citable_list name s (sound_at name.theory g) q)) stands in
-            let own_ref : Contains (label_ref item) ref = transport (λ l. Contains (with_theory src.theory l) ref) (sym label) (transport (Contains (record { theory = src.theory; label = ref.label } ∷ [])) (sym ref_is) (contains_first (record { theory = src.theory; label = ref.label }) [])) in
-            flat_stands label_ref (filter (λ (x : CiteElement). is_claim x.element) (citable (cite_scope p v name.theory s.element))) item ref
-            (filter_stands (λ (x : CiteElement). is_claim x.element) (citable (cite_scope p v name.theory s.element)) item there claimed) own_ref
+        may_cite = label_stands name s g q ref e src label (λ (x : CiteElement). is_claim x.element) claimed
 
         needed : Contains (needs_of p v name.theory s lines) other
         needed =

@@ -1,17 +1,12 @@
 -- Where a sequent stands in its project: the elements that its proof may cite, and their environment.
-use Rattle.std.specs.Prelude.{◌≡◌, ◌+◌, ◌-◌, ◌++◌, ℕ, zero, suc, Bool as Boolean, true, false, if◌then◌else◌, cond, List, [], ◌∷◌, Option, Some, None, map, flat_map, find, take, length, pred, bytes_eq, Contains, ⊤, refl}
+use Rattle.std.specs.Prelude.{◌≡◌, ◌+◌, ◌-◌, ◌++◌, ℕ, zero, suc, Bool as Boolean, true, false, if◌then◌else◌, cond, List, [], ◌∷◌, Some, None, map, flat_map, find, take, length, pred, Contains, refl}
 use Rattle.std.specs.List.{AllByRecursion}
 use Rattle.std.proofs.Common.{ap, sym, ◌∙◌, subst as transport, append_assoc, arith}
-use Rattle.ev_terms.specs.declared.types.Tys.{Empty}
-use Rattle.ev_terms.specs.Term.{Term}
 use Rattle.ev_typing.specs.declared.typing.Entry.{Entry}
 use Rattle.ev_typing.specs.declared.typing.Entry.TheVariants as entry
-use Rattle.ev_typing.specs.declared.typing.Sequent.{Sequent}
-use Rattle.ev_typing.specs.declared.typing.Signature.{Signature}
 use Rattle.ev_typing.specs.Env.{Env, Name, Symbol, DirectOf, RecursiveOf, look_up, find_symbol, symbols}
 use Rattle.ev_typing.specs.Typing.{IsPredicate, IsSequent}
-use Rattle.ev_typing.specs.WellFormed.{IsWellFormed}
-use Rattle.ev_typing.proofs.Names.{name_same, append_nil}
+use Rattle.ev_typing.proofs.Names.{name_same}
 use Rattle.ev_typing.proofs.Entries.{symbols_named}
 use Rattle.ev_typing.proofs.Wholes.{found_whole, whole_has_all}
 use Rattle.ev_data.specs.Sound.{IsSound}
@@ -24,16 +19,15 @@ use Rattle.ev_ops.proofs.Fitting.{contains_last}
 use Rattle.ev_oblig.specs.declared.named.Named.{Named}
 use Rattle.ev_oblig.specs.Obligations.{obligations}
 use Rattle.ev_script.specs.declared.sequent_names.SeqName.{SeqName}
-use Rattle.ev_replay.specs.declared.scopes.Scope.{Scope}
 use Rattle.ev_replay.specs.declared.scopes.CiteElement.{CiteElement}
-use Rattle.ev_replay.specs.Scopes.{IsScope, elements_of as cited_elements}
+use Rattle.ev_replay.specs.Scopes.{IsScope}
 use Rattle.ev_elab.specs.declared.theories.TheorySequent.{TheorySequent}
 use Rattle.ev_elab.specs.Elaborated.{sequents_from}
 use Rattle.ev_elab.proofs.Standing.{sound_all, empty_sound, sound_after, formulas_over, part_elements, follow_split}
 use Rattle.ev_project.specs.Projects.{Project, has_text}
 use Rattle.ev_project.specs.Contents.{Contents, elements_of, sequents_of, imports}
 use Rattle.ev_project.specs.Graphs.{reached_names}
-use Rattle.ev_project.specs.Scopes.{cite_elements, goal_sequent, scope_elements, cite_scope, theory_sequents, find_sequent}
+use Rattle.ev_project.specs.Scopes.{cite_elements, goal_sequent, cite_scope, theory_sequents, find_sequent}
 use Rattle.ev_sound.proofs.Goals.{Stands, goals_typed, member_holds}
 use Rattle.ev_sound.proofs.Sequents.{SequentAt, is_called, find_stands, sequent_at}
 use Rattle.ev_sound.proofs.Cited.{but_last}

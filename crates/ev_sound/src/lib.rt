@@ -4,6 +4,8 @@
 
 pub mod logic_laws;
 pub mod proof_laws;
+mod status_laws;
 
 pub use logic_laws::{congruence_at_places, congruence_of_bodies, derived_rules, equality};
 pub use proof_laws::proofs_are_sound;
+pub use status_laws::statuses_are_sound;
